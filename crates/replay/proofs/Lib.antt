@@ -1,0 +1,3 @@
+-- The laws that the proofs of `replay` share.
+pub mod Digits
+pub mod Texts

@@ -1,0 +1,3 @@
+-- What the contracts of `replay` cite.
+pub mod Parse
+pub mod Words

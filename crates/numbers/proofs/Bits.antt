@@ -11,7 +11,7 @@ use mir.Syntax.{Width, w16, w32}
 use mir.Val.{Fits, SFits, toZ, ofZ}
 use mir.ValLaws.{toZ-ofZ, toZ-pos}
 use borrow.Author.Tests.{le-leb}
-use Rattle.numbers.specs.Numbers.{modZ, wrap32, floorZ}
+use Rattle.numbers.specs.Numbers.{modZ, wrap32, wrap16, floorZ}
 
 -- a difference of two naturals, by the two cases of its sign
 pub sub-ind : (P : ℤ → Type 0) (a b : ℕ) → (a < b → P (negsuc (b - suc a))) → (b ≤ a → P (pos (a - b))) → P (subℕ a b)
@@ -123,15 +123,20 @@ pub of-wrap : (n : ℕ) (z : ℤ) → n ≡ modZ z 0x1_0000_0000 → toZ w32 n �
 unfolding wrap32
 of-wrap n z e = ap (toZ w32) e
 
--- ---- what fits 32 bits does not wrap
+-- ---- what fits does not wrap
 
-bits-of : (z : ℤ) → mag z < 2 ^ 31 → modZ z 0x1_0000_0000 ≡ ofZ w32 z
-bits-of (pos n) h = omega arith
-bits-of (negsuc n) h = omega arith
+unwrapped : (w : Width) (z : ℤ) (n : ℕ) → SFits w z → n ≡ ofZ w z → toZ w n ≡ z
+unwrapped w z n f e = ap (toZ w) e ∙ toZ-ofZ w z f
 
 pub wrap-small : (z : ℤ) → mag z < 2 ^ 31 → wrap32 z ≡ z
 unfolding wrap32
-wrap-small z h = ap (toZ w32) (bits-of z h) ∙ toZ-ofZ w32 z (record { sfits = h })
+wrap-small (pos n) h = unwrapped w32 (pos n) (modZ (pos n) 0x1_0000_0000) (record { sfits = h }) (omega arith)
+wrap-small (negsuc n) h = unwrapped w32 (negsuc n) (modZ (negsuc n) 0x1_0000_0000) (record { sfits = h }) (omega arith)
+
+pub wrap16-small : (z : ℤ) → mag z < 2 ^ 15 → wrap16 z ≡ z
+unfolding wrap16
+wrap16-small (pos n) h = unwrapped w16 (pos n) (modZ (pos n) 0x1_0000) (record { sfits = h }) (omega arith)
+wrap16-small (negsuc n) h = unwrapped w16 (negsuc n) (modZ (negsuc n) 0x1_0000) (record { sfits = h }) (omega arith)
 
 pub mag-neg : (k h : ℕ) → k ≤ h → 0 < h → mag (negℤ (pos k)) < h
 mag-neg zero h p q = q

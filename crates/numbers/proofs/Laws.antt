@@ -5,12 +5,9 @@ use native.Mathlib.Nat.{mul-assoc, mul-comm, mul-le-mul-right, le-div-iff-mul-le
 use native.Mathlib.Omega.{arith}
 use lib.IntN.{ℤ, pos, negsuc, negℤ, natAbs, one, _*ℤ_, *ℤ-one}
 use lib.Signed.{mag}
-use mir.Syntax.{w16}
-use mir.Val.{toZ}
-use mir.ValLaws.{toZ-ofZ}
 use borrow.Author.Tests.{ne-eqb}
-use Rattle.numbers.specs.Numbers.{modZ, wrap32, wrap16, floorZ, withSign, unlike, fromF2dot14, toF2dot14, times, over}
-use Rattle.numbers.proofs.Bits.{sub-ind, wrap-small}
+use Rattle.numbers.specs.Numbers.{wrap32, wrap16, floorZ, withSign, unlike, fromF2dot14, toF2dot14, times, over}
+use Rattle.numbers.proofs.Bits.{sub-ind, wrap-small, wrap16-small}
 use Rattle.numbers.proofs.Signs.{mul-sign, round-sign}
 
 -- ---- multiply
@@ -81,12 +78,13 @@ scalar-product s n d a b c l =
 -- ---- 2.14
 
 pub back-and-forth : (x : ℤ) → mag x < 2 ^ 15 → toF2dot14 (fromF2dot14 x) ≡ x
-unfolding toF2dot14 wrap16
+unfolding toF2dot14
 back-and-forth (pos n) h =
-    let e : (n * 4 + 2) / 4 % 65536 ≡ n = omega arith in
-    ap (toZ w16) e ∙ toZ-ofZ w16 (pos n) (record { sfits = h })
+    let e : (n * 4 + 2) / 4 ≡ n = omega arith in
+    ap (λ (k : ℕ). wrap16 (pos k)) e ∙ wrap16-small (pos n) h
 back-and-forth (negsuc n) h =
     let e : suc n * 4 ≡ suc (n * 4 + 3) = omega arith in
-    rw (ap (λ (k : ℕ). negℤ (pos k)) e) (sub-ind (λ (z : ℤ). toZ w16 (modZ (floorZ z 4) 65536) ≡ negsuc n) 2 (suc (n * 4 + 3))
-    (λ l. let f : 65536 - suc ((suc (n * 4 + 3) - 3) / 4 % 65536) ≡ 65536 - suc n = omega arith in ap (toZ w16) f ∙ toZ-ofZ w16 (negsuc n) (record { sfits = h }))
+    rw (ap (λ (k : ℕ). negℤ (pos k)) e)
+    (sub-ind (λ (z : ℤ). wrap16 (floorZ z 4) ≡ negsuc n) 2 (suc (n * 4 + 3))
+    (λ l. let f : (suc (n * 4 + 3) - 3) / 4 ≡ n = omega arith in ap (λ (k : ℕ). wrap16 (negsuc k)) f ∙ wrap16-small (negsuc n) h)
     (λ l. absurd (omega arith)))

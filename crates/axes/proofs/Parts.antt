@@ -10,7 +10,7 @@ use lib.Dec.{ltb, eqb}
 use borrow.Author.Tests.{le-ltb, ltb-false, ne-eqb}
 use Rattle.numbers.specs.Numbers.{wrap16, floorZ, negated, toF2dot14, quotient}
 use Rattle.numbers.proofs.Bits.{sub-ind, wrap-small, mag-neg, wrap16-small}
-use Rattle.numbers.proofs.Laws.{quotient-mono, part-le, over-part, over-self}
+use Rattle.numbers.proofs.Laws.{ratio-mono, part-le, over-part, over-self}
 use Rattle.readers.specs.Outcome.{Outcome, value, onward}
 use Rattle.axes.specs.Avar.{adjusted}
 use Rattle.axes.specs.Axis.{fraction, held}
@@ -38,7 +38,7 @@ share-le n (suc d) h = part-le n (suc d) h (omega arith)
 
 pub share-mono : (n n′ d : ℕ) → n ≤ n′ → share n d ≤ share n′ d
 share-mono n n′ zero h = omega (arith, div-zero (n * 65536 + 0))
-share-mono n n′ (suc d) h = quotient-mono (n * 65536) (n′ * 65536) (suc d) (omega arith) (omega arith)
+share-mono n n′ (suc d) h = ratio-mono (n * 65536) (n′ * 65536) (suc d) (omega arith) (omega arith)
 
 -- the fraction of two differences, below default with its sign changed: no refusal, and nothing wraps
 module _ (n d : ℕ) (part : n ≤ d) (some : 0 < d) where

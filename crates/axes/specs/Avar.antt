@@ -19,9 +19,9 @@ pub record SegmentMap : Type 0 where
 -- The map of an axis: one count and its pairs for each axis, from 8 on. The whole map must be there, and of the earlier ones only what
 -- leads past them; the later ones are not looked at.
 unfoldable pub mapTurn : Turn ℕ (Reading SegmentMap)
-mapTurn i p onward = do
+mapTurn i p next = do
   positionMapCount ← unsignedAt 2 p
-  onward (p + 2 + 4 * positionMapCount)
+  next (p + 2 + 4 * positionMapCount)
 
 unfoldable pub mapAt : ℕ → Reading SegmentMap
 mapAt p = do
@@ -56,9 +56,9 @@ between before pair v =
 
 -- The first pair whose from is not below the value: equal gives its to; the first pair of all leaves the value; otherwise it and the pair before it give the answer.
 unfoldable pub pairTurn : ℕ → ℤ → Turn Pair (Reading ℤ)
-pairTurn start v k before onward = do
+pairTurn start v k before next = do
   pair ← pairAt (start + 4 * k)
-  cond (ltZ (pair .fromCoordinate) v) (onward pair)
+  cond (ltZ (pair .fromCoordinate) v) (next pair)
       (cond (ltZ v (pair .fromCoordinate)) (cond (eqb k 0) (answer v) (answer (between before pair v)))
       (answer (pair .toCoordinate)))
 

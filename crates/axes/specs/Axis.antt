@@ -1,5 +1,5 @@
 -- An axis, and a value of it normalised (OpenType, "fvar", "VariationAxisRecord" and "Coordinate scales and normalization"; document 01, "fvar and normalising").
-use Prim.Native.Nat.{ℕ, _*_}
+use Prim.Native.Nat.{ℕ, _*_, _%_}
 use mathlib.Core.Bool.{Bool, true, false, cond, not, _&&_, _||_}
 use mathlib.Core.List.{List}
 use lib.Dec.{eqb}
@@ -30,6 +30,10 @@ noAxis = record {
   flags = 0;
   axisNameID = 0;
 }
+
+-- The flag HIDDEN_AXIS, the lowest bit.
+abbrev pub hidden : Axis → Bool
+hidden axis = eqb (axis .flags % 2) 1
 
 -- If below min take min, else if above max take max.
 unfoldable pub clamped : Axis → ℤ → ℤ

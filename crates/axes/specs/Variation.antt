@@ -45,6 +45,7 @@ abbrev pub readableCoord : Outcome Axis → (Axis → Outcome ℤ) → Outcome �
 readableCoord (value a) f = f a
 readableCoord (refused n) f = value (pos 0)
 
+-- Coordinate i, from the axis i.
 unfoldable pub settingCoord : List ℕ → Header → List ℕ → ℕ → List ℕ → List Float → ℕ → Outcome ℤ
 settingCoord table header font avar tags values i = readableCoord (run table (axis header i)) (λ a. axisCoord font avar a tags values)
 
@@ -53,6 +54,7 @@ unfoldable pub settingsCount : List ℕ → Header → List ℕ → ℕ → List
 settingsCount table header font avar tags values room =
     unless (eqb (length tags) (length values)) 6 (counted (settingCoord table header font avar tags values) (min (header .axisCount) 32) room)
 
+-- The lent list at the end.
 unfoldable pub settingsCoords : List ℕ → Header → List ℕ → ℕ → List ℕ → List Float → List ℤ → List ℤ
 settingsCoords table header font avar tags values out =
     coordsIn (settingCoord table header font avar tags values) (settingsCount table header font avar tags values (length out)) out
@@ -69,6 +71,7 @@ unfoldable pub instanceCount : List ℕ → Header → List ℕ → ℕ → ℕ 
 instanceCount table header font avar j room =
     onward (instanceValues table header j) (λ part. counted (valueCoord table header font avar part) (header .axisCount) room)
 
+-- The lent list at the end.
 unfoldable pub instanceCoords : List ℕ → Header → List ℕ → ℕ → ℕ → List ℤ → List ℤ
 instanceCoords table header font avar j out =
     coordsIn (valueCoord table header font avar (valueOr [] (instanceValues table header j))) (instanceCount table header font avar j (length out)) out

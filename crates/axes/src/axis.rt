@@ -5,11 +5,9 @@ use readers::F2Dot14Answer;
 use readers::FixedAnswer;
 use readers::Refusal;
 ghost use mathlib.Core.Path.{_≡_};
-ghost use Prim.Native.Nat.{_%_};
-ghost use lib.Dec.{eqb};
 ghost use Rattle.numbers.specs.Floats.{toFloat};
 ghost use Rattle.readers.specs.Answers.{outcomeFixed, outcomeF2Dot14};
-ghost use Rattle.axes.specs.Axis.{clamped, isLeast, fraction, fromDefault, held, normalizedCoord};
+ghost use Rattle.axes.specs.Axis.{hidden, clamped, isLeast, fraction, fromDefault, held, normalizedCoord};
 ghost use Rattle.axes.specs.AxisAnswers.{axisOf};
 
 // Axis of variation in a variable font.
@@ -26,7 +24,7 @@ pub struct VarAxis {
 impl VarAxis {
     // Whether the axis should be hidden in a user interface.
     pub fn is_hidden(self) -> bool
-        ensures { λ r. ⌜ r ≡ eqb (self .flags % 2) 1 ⌝ }
+        ensures { λ r. ⌜ r ≡ hidden (axisOf self) ⌝ }
     {
         self.flags % 2 == 1
     }

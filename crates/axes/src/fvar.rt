@@ -12,7 +12,7 @@ ghost use Prim.Native.Nat.{_+_, _*_, _^_, _<_};
 ghost use mathlib.Core.Path.{_≡_};
 ghost use mathlib.Core.List.{[]};
 ghost use lib.ListN.{length};
-ghost use Rattle.readers.specs.Outcome.{number as numberOf, valueOr};
+ghost use Rattle.readers.specs.Outcome.{number as numberIn, valueOr};
 ghost use Rattle.readers.specs.Reading.{run, unsignedAt};
 ghost use Rattle.readers.specs.Answers.{outcome16, outcome32, outcomeFixed};
 ghost use Rattle.axes.specs.Fvar.{headerOf, fieldAt, axisRecord, axis, axisByTag, instanceStart, instanceRecord, postScriptNameID, instance, instanceValues, instanceValue};
@@ -70,7 +70,7 @@ fn field_at(table: &[u8], at: usize) -> u16
     }
 }
 
-// Any position that two products of 16-bit numbers make is far below the bound.
+// The axis record at a position; an axis starts below 2^33.
 fn axis_at(table: &[u8], index: u16, at: usize) -> AxisAnswer
     requires { ⌜ at < 2 ^ 34 ⌝ }
     ensures { λ r. ⌜ axisOutcome r ≡ run (now (table .entry)) (axisRecord index at) ⌝ }
@@ -260,7 +260,7 @@ impl Fvar {
     // The values of an instance, four bytes for each axis: the very part of the table, with the number of a refusal, or 0, beside it.
     pub fn instance_values<'a>(self, table: &'a [u8], index: u16, number: &mut u8) -> &'a [u8]
         ensures part { λ r. ⌜ now r ≡ valueOr [] (instanceValues (now (table .entry)) (header self) index) ⌝ }
-        ensures number { λ r. ⌜ now (number .exit) ≡ numberOf (instanceValues (now (table .entry)) (header self) index) ⌝ }
+        ensures number { λ r. ⌜ now (number .exit) ≡ numberIn (instanceValues (now (table .entry)) (header self) index) ⌝ }
         ensures place { λ r. ⌜ (0 < length (now r) → (r .ptr .0 ≡ table .entry .ptr .0) × (r .ptr .1 ≡ table .entry .ptr .1 + (instanceStart (header self) index + 4))) ⌝ }
     {
         match self.instance_record(table, index) {

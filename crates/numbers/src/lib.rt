@@ -1,5 +1,6 @@
 // The 16.16 and 2.14 numbers (swash's fixed.rs).
-// A number is passed whole; only the leaf methods (`to_bits`, `from_f2dot14`, `to_f32`, the comparisons) open it.
+// A number is passed whole; only the leaf methods (`to_bits`, `from_f2dot14`, `to_f32`, `lt`) open it,
+// and whoever writes a coordinate to a list of i16.
 ghost use mathlib.Core.Path.{_≡_};
 ghost use Prim.Native.Nat.{_*_, _^_, _≤_, min};
 ghost use lib.IntN.{natAbs};
@@ -52,16 +53,14 @@ impl Fixed {
     pub fn to_bits(self) -> u32
         ensures { λ r. ⌜ r ≡ modZ (self .0) 0x1_0000_0000 ⌝ }
     {
-        let x = self.0;
-        if x >= 0 { x as u32 } else { !((!x) as u32) }
+        bits_of(self.0)
     }
 
     // x as 16.16, modulo 2^32.
     pub fn from_i32(x: i32) -> Fixed
         ensures { λ r. ⌜ r .0 ≡ fromInteger x ⌝ }
     {
-        let n = Fixed(x).to_bits();
-        Fixed::from_bits(n % 0x1_0000 * 0x1_0000)
+        Fixed::from_bits(bits_of(x) % 0x1_0000 * 0x1_0000)
     }
 
     pub fn from_f2dot14(x: F2Dot14) -> Fixed
@@ -169,6 +168,13 @@ impl Fixed {
     {
         std::num::nearest_i32_to_f32(self.0) / 65536.0
     }
+}
+
+// The 32 bits of x in two's complement.
+fn bits_of(x: i32) -> u32
+    ensures { λ r. ⌜ r ≡ modZ x 0x1_0000_0000 ⌝ }
+{
+    if x >= 0 { x as u32 } else { !((!x) as u32) }
 }
 
 // a·b over c.

@@ -33,6 +33,7 @@ placesIn (suc turns) false n = suc (placesIn turns (ltb (n / 10) 10) (n / 10))
 unfoldable pub places : ℕ → ℕ
 places n = placesIn n (ltb n 10) n
 
+-- Decimal digits without leading zeros.
 unfoldable pub decimal : ℕ → List ℕ
 decimal n = digits 10 (places n) n
 
@@ -41,6 +42,7 @@ unfoldable pub signed : ℤ → List ℕ
 signed (pos n) = decimal n
 signed (negsuc n) = ascii "-" ++ decimal (suc n)
 
+-- A tag: eight hex digits.
 unfoldable pub hex8 : ℕ → List ℕ
 hex8 n = digits 16 8 n
 

@@ -1,0 +1,56 @@
+-- `axes_list::line_of` meets its contract: the axis or the refusal is what `get_axis` answered; a raw number is read back from its bits. Assumes nothing.
+use mathlib.Core.Path.{_≡_}
+use Prim.Native.Nat.{_<_, _^_}
+use lib.IntN.{ℤ}
+use lib.Signed.{mag}
+use mir.Syntax.{w32}
+use mir.Val.{toZ, ofZ, hbits}
+use mir.ValLaws.{toZ-ofZ}
+use borrow.Author.Needs.{needs, sfits-of}
+use Rattle.axes_list.proofs.line_of.Statement.{statement}
+use Rattle.axes_list.proofs.line_of.Tie as tie
+
+raw : {x : ℤ} → mag x < 2 ^ hbits w32 → toZ w32 (ofZ w32 x) ≡ x
+raw fits = toZ-ofZ w32 _ (sfits-of fits)
+
+get-axis-requires : tie.Need-get-axis-requires
+get-axis-requires c κs = search needs
+
+enum-known-a : tie.Need-enum-known-a
+enum-known-a c = search needs
+
+axis-line-requires : tie.Need-axis-line-requires
+axis-line-requires c κs = search needs
+
+enum-known-n : tie.Need-enum-known-n
+enum-known-n c = search needs
+
+number-requires : tie.Need-number-requires
+number-requires c κs = search needs
+
+refused-line-requires : tie.Need-refused-line-requires
+refused-line-requires c κs = search needs
+
+returns : tie.Need-returns
+returns c =
+    rw (← c .before .before .before .before .before .before .before .before .get-axis .ensures, c .before .before .before .before .before .before .a .given .1)
+    (let values = c .before .struct-told3 .given .1 .1 .1 .1 in
+    rw (raw (values .0 .1 .1 .0 .1), raw (values .1 .0 .1 .1 .0 .1), raw (values .1 .1 .0 .1 .1 .0 .1)) at (c .axis-line .ensures))
+
+returns-2 : tie.Need-returns-2
+returns-2 c =
+    rw (← c .before .before .before .before .before .before .get-axis .ensures, c .before .before .before .before .n .given .1, ← c .before .number .ensures)
+    (c .refused-line .ensures)
+
+pub line-of-spec : {M : Type 1} → statement M
+line-of-spec =
+    tie.close
+    (tie.spec
+    get-axis-requires
+    enum-known-a
+    axis-line-requires
+    enum-known-n
+    number-requires
+    refused-line-requires
+    returns
+    returns-2)

@@ -154,3 +154,8 @@ four (negsuc n) h = mag-neg (suc n * 4) (2 ^ 31) (omega arith) (omega arith)
 pub quarter : (v : ℤ) (n : ℕ) → n ≡ modZ v 0x1_0000_0000 → (n + 2) / 4 % 65536 ≡ modZ (floorZ (v +ℤ pos 2) 4) 65536
 quarter (pos m) n e = omega arith
 quarter (negsuc m) n e = sub-ind (λ (z : ℤ). (n + 2) / 4 % 65536 ≡ modZ (floorZ z 4) 65536) 2 (suc m) (λ h. omega arith) (λ h. omega arith)
+
+-- the 16 bits of x, from the 32 of x·4
+pub narrow-bits : (x : ℤ) → mag x < 2 ^ 15 → modZ (x *ℤ pos 4) 0x1_0000_0000 / 4 % 0x1_0000 ≡ modZ x 0x1_0000
+narrow-bits (pos n) h = omega arith
+narrow-bits (negsuc n) h = omega (arith, mod-neg (pos (suc n * 4)))

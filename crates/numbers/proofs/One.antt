@@ -4,6 +4,7 @@ use lib.IntN.{ℤ}
 use Rattle.numbers.specs.declared.Fixed.{Fixed}
 use Rattle.numbers.specs.declared.F2Dot14.{F2Dot14}
 use Rattle.numbers.proofs.F2Dot14.from_bits.Reads as f2dot14-from-bits
+use Rattle.numbers.proofs.F2Dot14.to_bits.Reads as f2dot14-to-bits
 use Rattle.numbers.proofs.Fixed.from_bits.Reads as from-bits
 use Rattle.numbers.proofs.Fixed.to_bits.Reads as to-bits
 use Rattle.numbers.proofs.Fixed.from_i32.Reads as from-i32
@@ -30,6 +31,9 @@ f2dot14-one p q = λ i. record { 0 = (p ∙ sym q) i }
 
 pub f2dot14-from-bits-one : (κs : _) (a : _) (r r′ : _) (s s′ : _) → f2dot14-from-bits.Post κs a r s → f2dot14-from-bits.Post κs a r′ s′ → r ≡ r′
 f2dot14-from-bits-one κs a r r′ s s′ p q = f2dot14-one p q
+
+pub f2dot14-to-bits-one : (κs : _) (a : _) (r r′ : _) (s s′ : _) → f2dot14-to-bits.Post κs a r s → f2dot14-to-bits.Post κs a r′ s′ → r ≡ r′
+f2dot14-to-bits-one κs a r r′ s s′ p q = p ∙ sym q
 
 pub from-bits-one : (κs : _) (a : _) (r r′ : _) (s s′ : _) → from-bits.Post κs a r s → from-bits.Post κs a r′ s′ → r ≡ r′
 from-bits-one κs a r r′ s s′ p q = fixed-one p q

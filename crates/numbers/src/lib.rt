@@ -28,6 +28,13 @@ impl F2Dot14 {
             F2Dot14(!((!n) as i16))
         }
     }
+
+    pub fn to_bits(self) -> u16
+        ensures { λ r. ⌜ r ≡ modZ (self .0) 0x1_0000 ⌝ }
+    {
+        let n = Fixed::from_f2dot14(self).to_bits();
+        (n / 4 % 0x1_0000) as u16
+    }
 }
 
 impl Fixed {

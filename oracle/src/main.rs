@@ -1,8 +1,9 @@
 //! Cases of what was ported, answered by swash itself. README.md beside this folder says how to use it.
 
-mod internal;
+mod axes;
 mod numbers;
 mod random;
+mod swash;
 mod text;
 
 use std::collections::BTreeMap;
@@ -11,27 +12,60 @@ use std::io::{self, BufRead, BufReader, BufWriter, Write};
 use std::process::ExitCode;
 
 const USAGE: &str = "\
-oracle cases SEED COUNT          write COUNT cases
-oracle sample SEED COUNT         write COUNT lines for the stored sample
-oracle answers                   answer the cases on standard input
-oracle stops                     of the cases on standard input write those on which the Rust stops
-oracle compare SEED COUNT        hold the answers on standard input to those of the cases of SEED
-oracle compare FILE              hold the answers on standard input to those of the cases in FILE
+oracle cases SEED COUNT SUBJECT      write COUNT cases of numbers, of axes or of all
+oracle sample SEED                   write the cases of the stored sample
+oracle answers                       answer the cases on standard input
+oracle stops                         of the cases on standard input write those on which the Rust stops
+oracle compare SEED COUNT SUBJECT    hold the answers on standard input to those of the cases of SEED
+oracle compare FILE                  hold the answers on standard input to those of the cases in FILE
 ";
+
+/// What the Rust does with a case.
+#[derive(PartialEq)]
+pub enum Rust {
+    Answer(String),
+    /// answers `None`, with no number
+    None,
+    /// panics, by an overflow check
+    Stops,
+    /// has no counterpart: a list too short, lists of different length
+    Silent,
+}
+
+impl Rust {
+    /// What comes of asking the Rust.
+    pub fn of(asked: impl FnOnce() -> Rust + std::panic::UnwindSafe) -> Rust {
+        std::panic::catch_unwind(asked).unwrap_or(Rust::Stops)
+    }
+}
 
 /// What is to be answered to a case.
 pub struct Expected {
     pub name: &'static str,
-    /// the Rust's answer; none where it stops
-    pub rust: Option<String>,
+    pub rust: Rust,
     /// the answer by the rules, in exact integers
     pub rule: String,
+    /// whether what the Rust does fits the rules' answer
+    pub agree: bool,
 }
 
 impl Expected {
-    /// Where the Rust stops, the rules decide.
+    /// Where the Rust has no answer, or one without its number, the rules decide.
     fn answer(&self) -> &str {
-        self.rust.as_deref().unwrap_or(&self.rule)
+        match &self.rust {
+            Rust::Answer(answer) => answer,
+            _ => &self.rule,
+        }
+    }
+
+    /// What the Rust does, in words.
+    fn done(&self) -> &str {
+        match &self.rust {
+            Rust::Answer(answer) => answer,
+            Rust::None => "the Rust answers None",
+            Rust::Stops => "the Rust stops",
+            Rust::Silent => "the Rust has no counterpart",
+        }
     }
 }
 
@@ -43,7 +77,8 @@ fn expected(line: &str) -> Option<Expected> {
     if line.len() >= LINE {
         return None;
     }
-    numbers::parse(line).map(|case| case.expected())
+    let number = numbers::parse(line).map(|case| case.expected());
+    number.or_else(|| axes::parse(line).map(|case| case.expected()))
 }
 
 /// What stands for a line that is no case.
@@ -56,8 +91,10 @@ struct Row {
     equal: u64,
     /// as the rules, where the Rust stops
     stops: u64,
+    /// as the rules, where the Rust has no counterpart
+    silent: u64,
     differences: u64,
-    /// where the Rust answers, and the rules in exact integers say something else
+    /// where what the Rust does doesn't fit the rules in exact integers
     broken_rules: u64,
 }
 
@@ -92,56 +129,71 @@ impl Row {
     fn compare(&mut self, case: &str, given: &str, wanted: Option<&Expected>) {
         self.cases += 1;
         let want = wanted.map_or(NO_CASE, Expected::answer);
-        let stops = wanted.is_some_and(|w| w.rust.is_none());
-        if given != want {
-            self.differences += 1;
-            let by = if stops {
-                "the rule, where the Rust stops"
-            } else {
-                "the Rust"
-            };
-            println!("difference: {case}: {given}, but {want} by {by}");
-        } else if stops {
-            self.stops += 1;
+        let (count, by) = match wanted.map(|w| &w.rust) {
+            Some(Rust::Stops) => (&mut self.stops, "the rule, where the Rust stops"),
+            Some(Rust::Silent) => (&mut self.silent, "the rule; the Rust has no counterpart"),
+            Some(Rust::None) => (&mut self.equal, "the rule, for the Rust's None"),
+            Some(Rust::Answer(_)) | None => (&mut self.equal, "the Rust"),
+        };
+        if given == want {
+            *count += 1;
         } else {
-            self.equal += 1;
+            self.differences += 1;
+            println!("difference: {case}: {given}, but {want} by {by}");
         }
-        if let Some(Expected {
-            rust: Some(rust),
-            rule,
-            ..
-        }) = wanted
-        {
-            if rust != rule {
-                self.broken_rules += 1;
-                println!("rule and Rust differ: {case}: {rule}, but {rust} by the Rust");
-            }
+        if let Some(wanted) = wanted.filter(|w| !w.agree) {
+            self.broken_rules += 1;
+            println!(
+                "rule and Rust differ: {case}: {}, but {}",
+                wanted.rule,
+                wanted.done()
+            );
         }
+    }
+
+    fn columns(&self) -> [u64; 6] {
+        [
+            self.cases,
+            self.equal,
+            self.stops,
+            self.silent,
+            self.differences,
+            self.broken_rules,
+        ]
+    }
+
+    fn add(&mut self, row: &Row) {
+        self.cases += row.cases;
+        self.equal += row.equal;
+        self.stops += row.stops;
+        self.silent += row.silent;
+        self.differences += row.differences;
+        self.broken_rules += row.broken_rules;
     }
 }
 
+const COLUMNS: [&str; 6] = [
+    "cases",
+    "as the Rust",
+    "Rust stops",
+    "Rust silent",
+    "differences",
+    "rule vs. Rust",
+];
+
 /// Prints the table, and answers whether no row has a difference.
 fn table(rows: &BTreeMap<&str, Row>) -> bool {
-    let mut total = Row::default();
-    let print = |name: &str, r: &Row| {
-        println!(
-            "{name:<16}{:>12}{:>12}{:>12}{:>13}{:>14}",
-            r.cases, r.equal, r.stops, r.differences, r.broken_rules
-        )
+    let print = |name: &str, cells: [String; 6]| {
+        let cells: String = cells.iter().map(|cell| format!("{cell:>14}")).collect();
+        println!("{name:<18}{cells}");
     };
-    println!(
-        "{:<16}{:>12}{:>12}{:>12}{:>13}{:>14}",
-        "function", "cases", "as the Rust", "Rust stops", "differences", "rule vs. Rust"
-    );
+    let mut total = Row::default();
+    print("function", COLUMNS.map(str::to_string));
     for (name, row) in rows {
-        print(name, row);
-        total.cases += row.cases;
-        total.equal += row.equal;
-        total.stops += row.stops;
-        total.differences += row.differences;
-        total.broken_rules += row.broken_rules;
+        print(name, row.columns().map(|n| n.to_string()));
+        total.add(row);
     }
-    print("all", &total);
+    print("all", total.columns().map(|n| n.to_string()));
     total.differences == 0 && total.broken_rules == 0
 }
 
@@ -167,14 +219,34 @@ fn write_all(lines: impl Iterator<Item = String>) {
     let _ = out.flush();
 }
 
+/// Fresh cases: of all subjects, one of each in turn.
+fn cases(seed: &str, count: &str, subject: &str) -> Option<Box<dyn Iterator<Item = String>>> {
+    let seed = seed.parse().ok()?;
+    let numbers = numbers::cases::Cases::new(seed);
+    let mut axes = axes::cases::Cases::new(seed);
+    let all: Box<dyn Iterator<Item = String>> = match subject {
+        "numbers" => Box::new(numbers),
+        "axes" => Box::new(axes),
+        "all" => Box::new(
+            numbers
+                .flat_map(move |number| [Some(number), axes.next()])
+                .flatten(),
+        ),
+        _ => return None,
+    };
+    Some(Box::new(all.take(count.parse().ok()?)))
+}
+
+/// How many lines of each subject the stored sample has.
+const SAMPLE: usize = 3000;
+
 fn run(words: &[&str]) -> Option<bool> {
-    let number = |word: &str| word.parse::<u64>().ok();
     match *words {
-        ["cases", seed, count] => {
-            write_all(numbers::cases::Cases::new(number(seed)?).take(number(count)? as usize));
-        }
-        ["sample", seed, count] => {
-            write_all(numbers::cases::sample(number(seed)?, number(count)? as usize).into_iter());
+        ["cases", seed, count, subject] => write_all(cases(seed, count, subject)?),
+        ["sample", seed] => {
+            let seed = seed.parse().ok()?;
+            write_all(numbers::cases::sample(seed, SAMPLE).into_iter());
+            write_all(axes::cases::sample(seed, SAMPLE).into_iter());
         }
         ["answers"] => {
             let answer = |line: String| {
@@ -183,14 +255,10 @@ fn run(words: &[&str]) -> Option<bool> {
             write_all(lines(io::stdin().lock()).map(answer));
         }
         ["stops"] => {
-            let stops = |line: &String| expected(line).is_some_and(|e| e.rust.is_none());
+            let stops = |line: &String| expected(line).is_some_and(|e| e.rust == Rust::Stops);
             write_all(lines(io::stdin().lock()).filter(stops));
         }
-        ["compare", seed, count] => {
-            return Some(compare(
-                numbers::cases::Cases::new(number(seed)?).take(number(count)? as usize),
-            ));
-        }
+        ["compare", seed, count, subject] => return Some(compare(cases(seed, count, subject)?)),
         ["compare", file] => match File::open(file) {
             Ok(opened) => return Some(compare(lines(BufReader::new(opened)))),
             Err(why) => {

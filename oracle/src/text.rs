@@ -18,13 +18,61 @@ pub fn natural(word: &str) -> Option<i64> {
     }
 }
 
-/// The bits of a float: eight hexadecimal digits in lower case.
-pub fn float_bits(word: &str) -> Option<u32> {
-    let digits = word.bytes().all(|b| matches!(b, b'0'..=b'9' | b'a'..=b'f'));
-    if word.len() == 8 && digits {
+fn hex_digits(word: &str) -> bool {
+    word.bytes().all(|b| matches!(b, b'0'..=b'9' | b'a'..=b'f'))
+}
+
+/// 32 bits, a float's or a tag's: eight hexadecimal digits in lower case.
+pub fn bits(word: &str) -> Option<u32> {
+    if word.len() == 8 && hex_digits(word) {
         u32::from_str_radix(word, 16).ok()
     } else {
         None
+    }
+}
+
+/// What stands for no bytes, and for a list with no elements.
+pub const EMPTY: &str = "-";
+
+/// Bytes: two hexadecimal digits in lower case each.
+pub fn bytes(word: &str) -> Option<Vec<u8>> {
+    if word == EMPTY {
+        return Some(vec![]);
+    }
+    if word.is_empty() || word.len() % 2 == 1 || !hex_digits(word) {
+        return None;
+    }
+    let byte = |i: usize| u8::from_str_radix(&word[i..i + 2], 16).ok();
+    (0..word.len()).step_by(2).map(byte).collect()
+}
+
+/// A list has at most this many elements.
+pub const LIST: usize = 256;
+
+/// A list of 32 bits each, with a comma between two.
+pub fn list(word: &str) -> Option<Vec<u32>> {
+    if word == EMPTY {
+        return Some(vec![]);
+    }
+    let elements: Option<Vec<u32>> = word.split(',').map(bits).collect();
+    elements.filter(|list| list.len() <= LIST)
+}
+
+pub fn bytes_text(bytes: impl Iterator<Item = u8>) -> String {
+    let text: String = bytes.map(|b| format!("{b:02x}")).collect();
+    if text.is_empty() {
+        EMPTY.to_string()
+    } else {
+        text
+    }
+}
+
+pub fn list_text(elements: impl Iterator<Item = String>) -> String {
+    let elements: Vec<String> = elements.collect();
+    if elements.is_empty() {
+        EMPTY.to_string()
+    } else {
+        elements.join(",")
     }
 }
 

@@ -62,7 +62,7 @@ fn of_one(name: &[u8], a: &[u8]) -> Answer {
         return widened(n);
     }
     if same(name, b"to_f2dot14") {
-        return narrow(x.to_f2dot14());
+        return Answer::Integer(print::half_bits(x.to_f2dot14()));
     }
     if same(name, b"to_f32") {
         return Answer::Float(x.to_f32());
@@ -131,11 +131,6 @@ fn of_three(name: &[u8], a: &[u8], b: &[u8], c: &[u8]) -> Answer {
 
 fn number(x: Fixed) -> Answer {
     Answer::Integer(x.to_bits())
-}
-
-// The raw integer; `Fixed` serves for its 32 bits alone.
-fn narrow(x: F2Dot14) -> Answer {
-    Answer::Integer(Fixed(x.0 as i32).to_bits())
 }
 
 // The 2.14 number with the 32 bits n, where it is one.

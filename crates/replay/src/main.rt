@@ -1,6 +1,8 @@
 // Answers cases from standard input, one to a line, by the functions of this repository: a line of
 // standard output for each. oracle/README.md has the format.
+mod coords;
 mod fixed;
+mod fvar;
 mod parse;
 mod print;
 mod words;
@@ -18,10 +20,12 @@ struct State {
     more: bool,
 }
 
-// Answers the line. Each module that answers cases is asked here.
+// Answers the line. Each module that answers cases is asked here, until one knows the case.
 fn answer(line: &[u8], out: &mut Buffer, waiting: usize) -> usize {
-    let a = fixed::of_line(line);
-    let at = fixed::put(a, out, waiting);
+    let at = match fixed::of_line(line) {
+        fixed::Answer::NoCase => fvar::put_line(line, out, waiting),
+        a => fixed::put(a, out, waiting),
+    };
     print::put(out, at, b'\n')
 }
 

@@ -3,10 +3,42 @@ ghost use mathlib.Core.Path.{_≡_};
 ghost use Prim.Native.Nat.{_≤_};
 ghost use lib.Ieee.{binary32, ofBits};
 ghost use Rattle.replay.specs.Parse.{said, digitOf, numberIn, bitsOf, bitsOfMinus, integerBits, floatBits};
+use crate::Buffer;
+use crate::words::same;
+
+// A list has at most 256 elements.
+pub(crate) type Bits = [u32; 256];
+
+pub(crate) type Floats = [f32; 256];
+
+pub(crate) type Halves = [i16; 256];
+
+// Made by calls, so that no caller's proof has all their elements in it.
+pub(crate) fn empty_bits() -> Bits {
+    [0; 256]
+}
+
+pub(crate) fn empty_floats(mark: f32) -> Floats {
+    [mark; 256]
+}
+
+pub(crate) fn empty_halves(mark: i16) -> Halves {
+    [mark; 256]
+}
 
 // What a text of digits says.
 pub(crate) enum Parsed {
     Value(u32),
+    Not,
+}
+
+pub(crate) enum Place {
+    Value(u16),
+    Not,
+}
+
+pub(crate) enum Size {
+    Value(usize),
     Not,
 }
 
@@ -115,4 +147,121 @@ pub(crate) fn float(n: u32) -> f32
         return 0.0 / 0.0;
     }
     f32::from_bits(n)
+}
+
+// A number below 2^16 in decimal.
+pub(crate) fn index(text: &[u8]) -> Place {
+    let Parsed::Value(n) = natural(text) else {
+        return Place::Not;
+    };
+    if n > 0xffff {
+        return Place::Not;
+    }
+    Place::Value(n as u16)
+}
+
+// How many elements a list has that is written to.
+pub(crate) fn room(text: &[u8]) -> Size {
+    let Parsed::Value(n) = natural(text) else {
+        return Size::Not;
+    };
+    if n > 256 {
+        return Size::Not;
+    }
+    Size::Value(n as usize)
+}
+
+// Bytes, two hexadecimal digits each, or a minus for none: how many there are.
+pub(crate) fn bytes(text: &[u8], out: &mut Buffer) -> Size {
+    if same(text, b"-") {
+        return Size::Value(0);
+    }
+    let size = text.len() / 2;
+    if size == 0 {
+        return Size::Not;
+    }
+    if text.len() % 2 == 1 {
+        return Size::Not;
+    }
+    if size > 65536 {
+        return Size::Not;
+    }
+    let mut i = 0;
+    while i < size {
+        let high = digit(text[2 * i]);
+        let low = digit(text[2 * i + 1]);
+        if high > 15 {
+            return Size::Not;
+        }
+        if low > 15 {
+            return Size::Not;
+        }
+        out[i] = (high * 16 + low) as u8;
+        i += 1;
+    }
+    Size::Value(size)
+}
+
+// A list of 32 bits each, eight hexadecimal digits, with a comma between two, or a minus for none: how
+// many there are.
+pub(crate) fn list(text: &[u8], out: &mut Bits) -> Size {
+    if same(text, b"-") {
+        return Size::Value(0);
+    }
+    if text.len() > 2303 {
+        return Size::Not;
+    }
+    // with its comma an element has nine bytes; the last lacks it
+    let size = (text.len() + 1) / 9;
+    if 9 * size != text.len() + 1 {
+        return Size::Not;
+    }
+    let mut i = 0;
+    while i < size {
+        if !comma(text, 9 * i + 8) {
+            return Size::Not;
+        }
+        out[i] = match float_bits(&text[9 * i..9 * i + 8]) {
+            Parsed::Value(n) => n,
+            Parsed::Not => return Size::Not,
+        };
+        i += 1;
+    }
+    Size::Value(size)
+}
+
+// Whether a comma stands at the place, or the text's end.
+fn comma(text: &[u8], at: usize) -> bool {
+    if at < text.len() {
+        return text[at] == b',';
+    }
+    true
+}
+
+// The floats with the first `size` bits of a list.
+pub(crate) fn floats(bits: &Bits, size: usize, out: &mut Floats) {
+    let mut i = 0;
+    while i < 256 {
+        if i < size {
+            out[i] = float(bits[i]);
+        }
+        i += 1;
+    }
+}
+
+// A list's first elements.
+pub(crate) fn first(list: &Bits, size: usize) -> &[u32] {
+    let whole: &[u32] = list;
+    if size < whole.len() {
+        return &whole[0..size];
+    }
+    whole
+}
+
+pub(crate) fn first_floats(list: &Floats, size: usize) -> &[f32] {
+    let whole: &[f32] = list;
+    if size < whole.len() {
+        return &whole[0..size];
+    }
+    whole
 }

@@ -1,6 +1,9 @@
 // The text of answers. It goes into a buffer, which is written out when it is full.
 use crate::Buffer;
 use libc::STDOUT_FILENO;
+use numbers::F2Dot14;
+use numbers::Fixed;
+use readers::Half;
 
 // Puts a byte behind those that wait, and answers how many wait then.
 pub(crate) fn put(out: &mut Buffer, waiting: usize, byte: u8) -> usize {
@@ -39,14 +42,92 @@ pub(crate) fn put_integer(out: &mut Buffer, waiting: usize, n: u32) -> usize {
     put_natural(out, at, 0x1_0000_0000 - n as u64)
 }
 
+// A 2.14 number, as its raw integer.
+pub(crate) fn put_half(out: &mut Buffer, waiting: usize, x: F2Dot14) -> usize {
+    put_integer(out, waiting, half_bits(x))
+}
+
+// The raw integer's 32 bits.
+pub(crate) fn half_bits(x: F2Dot14) -> u32 {
+    let n = x.to_bits() as u32;
+    if n < 0x8000 { n } else { n + 0xffff_0000 }
+}
+
+// 32 bits as eight hexadecimal digits.
+pub(crate) fn put_bits(out: &mut Buffer, waiting: usize, n: u32) -> usize {
+    let mut text = [0u8; 16];
+    let k = io::hex(n as u64, 8, &mut text);
+    put_text(out, waiting, &text[..k])
+}
+
 // A float's bits, or `nan`.
 pub(crate) fn put_float(out: &mut Buffer, waiting: usize, x: f32) -> usize {
     if x != x {
         return put_text(out, waiting, b"nan");
     }
+    put_bits(out, waiting, float_bits(x))
+}
+
+// Bytes, two hexadecimal digits each, or a minus for none.
+pub(crate) fn put_bytes(out: &mut Buffer, waiting: usize, bytes: &[u8]) -> usize {
+    if bytes.len() == 0 {
+        return put(out, waiting, b'-');
+    }
+    let mut at = waiting;
+    let mut i = 0;
+    while i < bytes.len() {
+        at = put_byte(out, at, bytes[i]);
+        i += 1;
+    }
+    at
+}
+
+fn put_byte(out: &mut Buffer, waiting: usize, byte: u8) -> usize {
     let mut text = [0u8; 16];
-    let k = io::hex(float_bits(x) as u64, 8, &mut text);
+    let k = io::hex(byte as u64, 2, &mut text);
     put_text(out, waiting, &text[..k])
+}
+
+// What a list has before its element i: nothing before the first, else a comma.
+pub(crate) fn put_comma(out: &mut Buffer, waiting: usize, i: usize) -> usize {
+    if i == 0 {
+        return waiting;
+    }
+    put(out, waiting, b',')
+}
+
+// A blank, and a number in decimal.
+pub(crate) fn put_next(out: &mut Buffer, waiting: usize, n: u64) -> usize {
+    let at = put(out, waiting, b' ');
+    put_natural(out, at, n)
+}
+
+// A blank, and a 16.16 number.
+pub(crate) fn put_next_fixed(out: &mut Buffer, waiting: usize, x: Fixed) -> usize {
+    let at = put(out, waiting, b' ');
+    put_integer(out, at, x.to_bits())
+}
+
+// A blank, and a float.
+pub(crate) fn put_next_float(out: &mut Buffer, waiting: usize, x: f32) -> usize {
+    let at = put(out, waiting, b' ');
+    put_float(out, at, x)
+}
+
+pub(crate) fn put_refused(out: &mut Buffer, waiting: usize, number: u8) -> usize {
+    let at = put_text(out, waiting, b"refused");
+    put_next(out, at, number as u64)
+}
+
+// What a function answers that writes a list: a count or a refusal.
+pub(crate) fn put_count(out: &mut Buffer, waiting: usize, answer: Half) -> usize {
+    match answer {
+        Half::Value(n) => {
+            let at = put_text(out, waiting, b"value");
+            put_next(out, at, n as u64)
+        }
+        Half::Refused(r) => put_refused(out, waiting, readers::number(r)),
+    }
 }
 
 // A float's bits. All NaNs are one.

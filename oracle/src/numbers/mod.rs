@@ -1,11 +1,11 @@
 //! The cases of the 16.16 arithmetic: their text, the Rust's answer, the rules' answer.
 
 pub mod cases;
-mod rules;
+pub mod rules;
 
-use crate::internal::fixed::{muldiv, Fixed};
+use crate::swash::internal::fixed::{muldiv, Fixed};
 use crate::text;
-use crate::Expected;
+use crate::{Expected, Rust};
 
 #[derive(Clone, Copy, PartialEq)]
 pub enum Kind {
@@ -50,7 +50,7 @@ fn argument(kind: Kind, word: &str) -> Option<i64> {
     let (value, least, most) = match kind {
         Word => (text::integer(word)?, -(1 << 31), (1 << 31) - 1),
         Half => (text::integer(word)?, -(1 << 15), (1 << 15) - 1),
-        Float => (text::float_bits(word)? as i64, 0, (1 << 32) - 1),
+        Float => (text::bits(word)? as i64, 0, (1 << 32) - 1),
         Count => (text::natural(word)?, 0, (1 << 32) - 1),
     };
     (least <= value && value <= most).then_some(value)
@@ -124,10 +124,14 @@ impl Case {
     }
 
     pub fn expected(&self) -> Expected {
+        let rust = Rust::of(|| Rust::Answer(self.rust()));
+        let rule = self.rule();
+        let agree = rust == Rust::Stops || rust == Rust::Answer(rule.clone());
         Expected {
             name: self.name,
-            rust: std::panic::catch_unwind(|| self.rust()).ok(),
-            rule: self.rule(),
+            rust,
+            rule,
+            agree,
         }
     }
 }

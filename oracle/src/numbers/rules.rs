@@ -4,7 +4,7 @@
 const WORD: i128 = 1 << 32;
 
 /// The signed 32-bit number that is congruent to x modulo 2^32.
-fn wrap32(x: i128) -> i64 {
+pub fn wrap32(x: i128) -> i64 {
     let low = x.rem_euclid(WORD);
     (if low >= WORD / 2 { low - WORD } else { low }) as i64
 }

@@ -1,5 +1,4 @@
 -- `replay::parse::positive` meets its contract. Assumes nothing.
-use Prim.Native.Nat.{_-_}
 use borrow.Author.Needs.{needs}
 use borrow.Author.Tests.{lt-ltb, le-ltb}
 use Rattle.replay.specs.Parse.{bitsOf}

@@ -1,0 +1,66 @@
+-- `replay::coords::put_list` is safe and ends. Assumes nothing.
+use Prim.Native.Nat.{_≤_, _-_}
+use borrow.Author.Needs.{needs}
+use Rattle.replay.proofs.coords.put_list.Statement.{statement}
+use Rattle.replay.proofs.coords.put_list.Tie as tie
+
+abbrev Inv-loop : tie.InvT-loop
+Inv-loop list room out₀ waiting at₀ i₀ out at i = i ≤ 256
+
+abbrev μ-loop : tie.MeasureT-loop
+μ-loop list room out₀ waiting at₀ i₀ out at i = 256 - i
+
+put-requires : tie.Need-put-requires Inv-loop μ-loop
+put-requires c κs = search needs
+
+put-requires-2 : tie.Need-put-requires-2 Inv-loop μ-loop
+put-requires-2 c κs = search needs
+
+returns : tie.Need-returns Inv-loop μ-loop
+returns c = search needs
+
+loop-holds : tie.Need-loop-holds Inv-loop μ-loop
+loop-holds c = search needs
+
+put-comma-requires : tie.Need-put-comma-requires Inv-loop μ-loop
+put-comma-requires c κs = search needs
+
+mul-t13 : tie.Need-mul-t13 Inv-loop μ-loop
+mul-t13 c = search needs
+
+element-copy-out-t16 : tie.Need-element-copy-out-t16 Inv-loop μ-loop
+element-copy-out-t16 c = search needs
+
+put-half-requires : tie.Need-put-half-requires Inv-loop μ-loop
+put-half-requires c κs = search needs
+
+add-i : tie.Need-add-i Inv-loop μ-loop
+add-i c = search needs
+
+loop-less : tie.Need-loop-less Inv-loop μ-loop
+loop-less c = search needs
+
+loop-again : tie.Need-loop-again Inv-loop μ-loop
+loop-again c = search needs
+
+returns-2 : tie.Need-returns-2 Inv-loop μ-loop
+returns-2 c = search needs
+
+pub put-list-spec : {M : Type 1} → statement M
+put-list-spec =
+    tie.close
+    (tie.spec
+    Inv-loop
+    μ-loop
+    put-requires
+    put-requires-2
+    returns
+    loop-holds
+    put-comma-requires
+    mul-t13
+    element-copy-out-t16
+    put-half-requires
+    add-i
+    loop-less
+    loop-again
+    returns-2)

@@ -1,6 +1,5 @@
 // The 16.16 and 2.14 numbers (swash's fixed.rs).
-// A number is passed whole; only the leaf methods (`to_bits`, `from_f2dot14`, `to_f32`, `lt`) open it,
-// and whoever writes a coordinate to a list of i16.
+// A number is passed whole: what computes with it goes through its methods, of which `to_bits`, `from_f2dot14`, `to_f32` and `lt` open it.
 ghost use mathlib.Core.Path.{_≡_};
 ghost use Prim.Native.Nat.{_*_, _^_, _≤_, min};
 ghost use lib.IntN.{natAbs};

@@ -1,15 +1,14 @@
 -- Laws of a lent list that is filled. Assumes nothing.
 use Prim.Native.Nat.{ℕ, zero, suc, _+_, _≤_, _<_}
-use mathlib.Core.Path.{_≡_, refl, sym, _∙_}
+use mathlib.Core.Path.{_≡_, refl, _∙_}
 use mathlib.Core.Bool.{Bool, true, false}
-use mathlib.Core.Logic.{_≢_}
 use mathlib.Core.List.{List}
 use native.Mathlib.Numerals.{add-one}
 use native.Mathlib.Omega.{arith}
 use borrow.Author.Tests.{eqb-true, eqb-false}
 use lib.Dec.{eqb}
 use lib.ListN.{length, getD, set, length-set}
-use lib.Seq.{getD-set-same, getD-set-other, set-set, set-comm}
+use lib.Seq.{getD-set-same, getD-set-other}
 use Rattle.readers.specs.Outcome.{Outcome, value, refused}
 use Rattle.readers.specs.Lent.{fill, written}
 
@@ -53,20 +52,6 @@ pub fill-same : {A : Type 0} (f g : ℕ → A) (n : ℕ) (l : List A) → ((i : 
 unfolding fill
 fill-same f g zero l h = refl
 fill-same f g (suc n) l h = rw (fill-same f g n l (λ i b. h i (omega arith)), h n (omega arith))
-
--- An element below n written once more: f with another value at i.
-pub fill-again : {A : Type 0} (f g : ℕ → A) (n : ℕ) (l : List A) (i : ℕ) → i < n → ((j : ℕ) → j < n → j ≢ i → f j ≡ g j) → set (fill f n l) i (g i) ≡ fill g n l
-unfolding fill
-fill-again f g zero l i h e = absurd (omega arith)
-fill-again f g (suc n) l i h e = go (eqb i n) refl (λ b. fill-again f g n l i b (λ j k. e j (omega arith)))
-  where
-    go : (t : Bool) → eqb i n ≡ t → (i < n → set (fill f n l) i (g i) ≡ fill g n l) → set (set (fill f n l) n (f n)) i (g i) ≡ set (fill g n l) n (g n)
-    go true q ih =
-        let p : i ≡ n = eqb-true i n q in
-        rw (p, set-set (fill f n l) n (f n) (g n), fill-same f g n l (λ j k. e j (omega arith) (λ c. omega arith)))
-    go false q ih =
-        let m : n ≢ i = λ c. eqb-false i n q (sym c) in
-        rw (set-comm (fill f n l) n i (f n) (g i) m, ih (omega (arith, eqb-false i n q)), e n (omega arith) m)
 
 -- At the end: written where d is a value, left as it was where d is a refusal; and d beside it, which the answer is.
 module _ {A B : Type 0} (d : Outcome B) (write : B → List A → List A) (l : List A) where

@@ -4,7 +4,6 @@ pub mod Maps
 pub mod Axes
 pub mod Instances
 pub mod Coords
-pub mod Gaps
 pub mod Parts
 pub mod Normalizing
 pub mod AxisTable

@@ -5,6 +5,8 @@ use Rattle.numbers.specs.declared.Fixed.{Fixed}
 use Rattle.numbers.specs.declared.F2Dot14.{F2Dot14}
 use Rattle.numbers.proofs.F2Dot14.from_bits.Reads as f2dot14-from-bits
 use Rattle.numbers.proofs.F2Dot14.to_bits.Reads as f2dot14-to-bits
+use Rattle.numbers.proofs.F2Dot14.lt.Reads as f2dot14-lt
+use Rattle.numbers.proofs.F2Dot14.above.Reads as above
 use Rattle.numbers.proofs.Fixed.from_bits.Reads as from-bits
 use Rattle.numbers.proofs.Fixed.to_bits.Reads as to-bits
 use Rattle.numbers.proofs.Fixed.from_i32.Reads as from-i32
@@ -18,6 +20,8 @@ use Rattle.numbers.proofs.Fixed.min.Reads as min
 use Rattle.numbers.proofs.Fixed.max.Reads as max
 use Rattle.numbers.proofs.Fixed.mul.Reads as mul
 use Rattle.numbers.proofs.Fixed.div.Reads as div
+use Rattle.numbers.proofs.Fixed.scaled.Reads as scaled
+use Rattle.numbers.proofs.Fixed.add_product.Reads as add-product
 use Rattle.numbers.proofs.Fixed.from_f32.Reads as from-f32
 use Rattle.numbers.proofs.Fixed.to_f32.Reads as to-f32
 use Rattle.numbers.proofs.muldiv.Reads as muldiv
@@ -34,6 +38,12 @@ f2dot14-from-bits-one κs a r r′ s s′ p q = f2dot14-one p q
 
 pub f2dot14-to-bits-one : (κs : _) (a : _) (r r′ : _) (s s′ : _) → f2dot14-to-bits.Post κs a r s → f2dot14-to-bits.Post κs a r′ s′ → r ≡ r′
 f2dot14-to-bits-one κs a r r′ s s′ p q = p ∙ sym q
+
+pub f2dot14-lt-one : (κs : _) (a : _) (r r′ : _) (s s′ : _) → f2dot14-lt.Post κs a r s → f2dot14-lt.Post κs a r′ s′ → r ≡ r′
+f2dot14-lt-one κs a r r′ s s′ p q = p ∙ sym q
+
+pub above-one : (κs : _) (a : _) (r r′ : _) (s s′ : _) → above.Post κs a r s → above.Post κs a r′ s′ → r ≡ r′
+above-one κs a r r′ s s′ p q = p ∙ sym q
 
 pub from-bits-one : (κs : _) (a : _) (r r′ : _) (s s′ : _) → from-bits.Post κs a r s → from-bits.Post κs a r′ s′ → r ≡ r′
 from-bits-one κs a r r′ s s′ p q = fixed-one p q
@@ -73,6 +83,12 @@ mul-one κs a r r′ s s′ p q = fixed-one p q
 
 pub div-one : (κs : _) (a : _) (r r′ : _) (s s′ : _) → div.Post κs a r s → div.Post κs a r′ s′ → r ≡ r′
 div-one κs a r r′ s s′ p q = fixed-one p q
+
+pub scaled-one : (κs : _) (a : _) (r r′ : _) (s s′ : _) → scaled.Post κs a r s → scaled.Post κs a r′ s′ → r ≡ r′
+scaled-one κs a r r′ s s′ p q = fixed-one p q
+
+pub add-product-one : (κs : _) (a : _) (r r′ : _) (s s′ : _) → add-product.Post κs a r s → add-product.Post κs a r′ s′ → r ≡ r′
+add-product-one κs a r r′ s s′ p q = fixed-one p q
 
 pub from-f32-one : (κs : _) (a : _) (r r′ : _) (s s′ : _) → from-f32.Post κs a r s → from-f32.Post κs a r′ s′ → r ≡ r′
 from-f32-one κs a r r′ s s′ p q = fixed-one p q

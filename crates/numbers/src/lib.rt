@@ -2,7 +2,7 @@
 // A number is passed whole: what computes with it goes through its methods, of which `to_bits`, `from_f2dot14`, `to_f32` and `lt` open it.
 ghost use mathlib.Core.Path.{_≡_};
 ghost use Prim.Native.Nat.{_*_, _^_, _≤_, min};
-ghost use lib.IntN.{natAbs};
+ghost use lib.IntN.{pos, natAbs, _+ℤ_, _-ℤ_, _*ℤ_};
 ghost use lib.Ieee.{toSigned};
 ghost use lib.Signed.{ltZ};
 ghost use mir.Syntax.{w16, w32};
@@ -33,6 +33,20 @@ impl F2Dot14 {
     {
         let n = Fixed::from_f2dot14(self).to_bits();
         (n / 4 % 0x1_0000) as u16
+    }
+
+    // Whether self is below rhs.
+    pub fn lt(self, rhs: F2Dot14) -> bool
+        ensures { λ r. ⌜ r ≡ ltZ (self .0) (rhs .0) ⌝ }
+    {
+        self.0 < rhs.0
+    }
+
+    // How far self lies above rhs, modulo 2^16: where rhs is not above it, the difference itself.
+    pub fn above(self, rhs: F2Dot14) -> u16
+        ensures { λ r. ⌜ r ≡ modZ (self .0 -ℤ rhs .0) 0x1_0000 ⌝ }
+    {
+        std::num::wrapping_sub_u16(self.to_bits(), rhs.to_bits())
     }
 }
 
@@ -161,6 +175,28 @@ impl Fixed {
     {
         let q = nearest_quotient(self.magnitude() * 0x1_0000, rhs.magnitude());
         Fixed::with_sign(self.negative() != rhs.negative(), q)
+    }
+
+    // self times a part of a way, over the whole way, both in 2.14: what `mul` and `div` make of them. For a scalar, which lies in 0..1, nothing of it has
+    // a sign, and the factors of 4 that take 2.14 to 16.16 cancel.
+    pub fn scaled(self, part: u16, whole: u16) -> Fixed
+        ensures { λ r. ⌜ r .0 ≡ over (times (self .0) (fromF2dot14 (pos part))) (fromF2dot14 (pos whole)) ⌝ }
+    {
+        let n = self.to_bits();
+        if n <= 0x1_0000 {
+            let m = ((n as u64) * (part as u64) + 0x2000) / 0x4000;
+            return Fixed::from_bits(nearest_quotient(m * 0x4000, whole as u64) as u32);
+        }
+        self.mul(Fixed::from_bits(4 * (part as u32)))
+            .div(Fixed::from_bits(4 * (whole as u32)))
+    }
+
+    // self plus a 16.16 number times a whole number, modulo 2^32: nothing is rounded.
+    pub fn add_product(self, x: Fixed, n: i16) -> Fixed
+        ensures { λ r. ⌜ r .0 ≡ wrap32 (self .0 +ℤ x .0 *ℤ n) ⌝ }
+    {
+        let product = (x.to_bits() as u64) * (bits_of(n as i32) as u64);
+        Fixed::from_bits(((product + (self.to_bits() as u64)) % 0x1_0000_0000) as u32)
     }
 
     pub fn from_f32(x: f32) -> Fixed

@@ -2,7 +2,7 @@
 -- The rules over `run font (..)` go from a definition's outcome back to what the calls ensure and the case that each answer was: `search` follows a chain
 -- of reads by them with no path written, as in `search (unsigned, ends) depth 8` under `unfolding` of the definition.
 use Prim.Native.Nat.{ℕ, _+_}
-use mathlib.Core.Path.{_≡_, refl}
+use mathlib.Core.Path.{_≡_, refl, sym}
 use mathlib.Core.List.{List}
 use mathlib.Core.Bool.{Bool, true, false, cond}
 use lib.ListN.{length}
@@ -36,6 +36,14 @@ run-bind font (answer a) k = refl
 run-bind font (refuse n) k = refl
 run-bind font (tested t n r) k = rw (run-bind font r k) (unless-onward t n (run font r) (λ a. run font (k a)))
 run-bind font (bytesAt n p f) k = rw (run-bind font (f (bigEndian n font p)) k) (unless-onward (leb (p + n) (length font)) 2 (run font (f (bigEndian n font p))) (λ a. run font (k a)))
+
+-- A reading of two and then a third is the first and then a reading of two.
+pub run-nested : {A B C : Type 0} (font : List ℕ) (d : Reading A) (g : A → Reading B) (f : B → Reading C) → run font ((d >>= g) >>= f) ≡ run font (d >>= λ a. g a >>= f)
+run-nested {A} font d g f = rw (run-bind font (d >>= g) f, run-bind font d g, run-bind font d (λ a. g a >>= f)) (go (run font d))
+  where
+    go : (o : Outcome A) → onward (onward o (λ a. run font (g a))) (λ b. run font (f b)) ≡ onward o (λ a. run font (g a >>= f))
+    go (value a) = sym (run-bind font (g a) f)
+    go (refused n) = refl
 
 -- A definition that goes on after a read that gave a value; after one that refused. o gives the outcome of the read's answer.
 module _ {R A C : Type 0} (o : R → Outcome A) (font : List ℕ) (d : Reading A) (f : A → Reading C) where

@@ -1,0 +1,139 @@
+-- Document 01's examples S1 to S5 and H1, computed by the definitions that the contracts cite. Assumes nothing.
+use mathlib.Core.Path.{_≡_, refl}
+use mathlib.Core.List.{List, [], _∷_}
+use Prim.Native.Nat.{ℕ}
+use lib.IntN.{ℤ, pos, negsuc}
+use Rattle.numbers.specs.Numbers.{wrap32, times, over}
+use Rattle.readers.specs.Outcome.{value, refused}
+use Rattle.readers.specs.Reading.{Reading, answer, refuse, tested, bytesAt, unsignedAt, signedAt, bigEndian, run}
+use Rattle.readers.specs.Walk.{turns, walk}
+use Rattle.store.specs.Region.{tripleAt, skipped, tent, axisTurn, regionScalar}
+use Rattle.store.specs.Item.{regionList, rowAt, itemAt, regionIndexAt, deltaAt, rowTurn, rowSum, itemSum, deltaIn}
+use Rattle.store.specs.Metric.{advance, bearing, mapEntry, storeOf, deltaSetAt, metricDelta}
+
+-- What every example unfolds.
+unfoldable pub computing : Unit {0}
+unfolding wrap32 times over unsignedAt signedAt bigEndian run turns walk tripleAt skipped tent axisTurn regionScalar regionList rowAt itemAt regionIndexAt deltaAt rowTurn rowSum itemSum deltaIn mapEntry storeOf deltaSetAt metricDelta
+computing = tt
+
+-- The fonts: an HVAR at 4, its store, the region list, and one subtable.
+-- S1: the triple 0, 16384, 16384; the entry 100.
+pub s1-font : List ℕ
+s1-font =
+    0 ∷ 0 ∷ 0 ∷ 0
+    ∷ 0 ∷ 1 ∷ 0 ∷ 0 ∷ 0 ∷ 0 ∷ 0 ∷ 0x10 ∷ 0 ∷ 0 ∷ 0 ∷ 0 ∷ 0 ∷ 0 ∷ 0 ∷ 0
+    ∷ 0 ∷ 1 ∷ 0 ∷ 0 ∷ 0 ∷ 0x0c ∷ 0 ∷ 1 ∷ 0 ∷ 0 ∷ 0 ∷ 0x16
+    ∷ 0 ∷ 1 ∷ 0 ∷ 1 ∷ 0 ∷ 0 ∷ 0x40 ∷ 0 ∷ 0x40 ∷ 0
+    ∷ 0 ∷ 1 ∷ 0 ∷ 0 ∷ 0 ∷ 1 ∷ 0 ∷ 0 ∷ 0x64
+    ∷ []
+
+-- S2: the triple 0, 12288, 16384; the entry 3.
+pub s2-font : List ℕ
+s2-font =
+    0 ∷ 0 ∷ 0 ∷ 0
+    ∷ 0 ∷ 1 ∷ 0 ∷ 0 ∷ 0 ∷ 0 ∷ 0 ∷ 0x10 ∷ 0 ∷ 0 ∷ 0 ∷ 0 ∷ 0 ∷ 0 ∷ 0 ∷ 0
+    ∷ 0 ∷ 1 ∷ 0 ∷ 0 ∷ 0 ∷ 0x0c ∷ 0 ∷ 1 ∷ 0 ∷ 0 ∷ 0 ∷ 0x16
+    ∷ 0 ∷ 1 ∷ 0 ∷ 1 ∷ 0 ∷ 0 ∷ 0x30 ∷ 0 ∷ 0x40 ∷ 0
+    ∷ 0 ∷ 1 ∷ 0 ∷ 0 ∷ 0 ∷ 1 ∷ 0 ∷ 0 ∷ 3
+    ∷ []
+
+-- S3: the triple -16384, 8192, 16384, which is skipped; the entry 3.
+pub s3-font : List ℕ
+s3-font =
+    0 ∷ 0 ∷ 0 ∷ 0
+    ∷ 0 ∷ 1 ∷ 0 ∷ 0 ∷ 0 ∷ 0 ∷ 0 ∷ 0x10 ∷ 0 ∷ 0 ∷ 0 ∷ 0 ∷ 0 ∷ 0 ∷ 0 ∷ 0
+    ∷ 0 ∷ 1 ∷ 0 ∷ 0 ∷ 0 ∷ 0x0c ∷ 0 ∷ 1 ∷ 0 ∷ 0 ∷ 0 ∷ 0x16
+    ∷ 0 ∷ 1 ∷ 0 ∷ 1 ∷ 0xc0 ∷ 0 ∷ 0x20 ∷ 0 ∷ 0x40 ∷ 0
+    ∷ 0 ∷ 1 ∷ 0 ∷ 0 ∷ 0 ∷ 1 ∷ 0 ∷ 0 ∷ 3
+    ∷ []
+
+-- S4: two regions with S3's triple; the entries 32767, words.
+pub s4-font : List ℕ
+s4-font =
+    0 ∷ 0 ∷ 0 ∷ 0
+    ∷ 0 ∷ 1 ∷ 0 ∷ 0 ∷ 0 ∷ 0 ∷ 0 ∷ 0x10 ∷ 0 ∷ 0 ∷ 0 ∷ 0 ∷ 0 ∷ 0 ∷ 0 ∷ 0
+    ∷ 0 ∷ 1 ∷ 0 ∷ 0 ∷ 0 ∷ 0x0c ∷ 0 ∷ 1 ∷ 0 ∷ 0 ∷ 0 ∷ 0x1c
+    ∷ 0 ∷ 1 ∷ 0 ∷ 2 ∷ 0xc0 ∷ 0 ∷ 0x20 ∷ 0 ∷ 0x40 ∷ 0 ∷ 0xc0 ∷ 0 ∷ 0x20 ∷ 0 ∷ 0x40 ∷ 0
+    ∷ 0 ∷ 1 ∷ 0 ∷ 2 ∷ 0 ∷ 2 ∷ 0 ∷ 0 ∷ 0 ∷ 1 ∷ 0x7f ∷ 0xff ∷ 0x7f ∷ 0xff
+    ∷ []
+
+-- S5: no regions.
+pub s5-font : List ℕ
+s5-font =
+    0 ∷ 0 ∷ 0 ∷ 0
+    ∷ 0 ∷ 1 ∷ 0 ∷ 0 ∷ 0 ∷ 0 ∷ 0 ∷ 0x10 ∷ 0 ∷ 0 ∷ 0 ∷ 0 ∷ 0 ∷ 0 ∷ 0 ∷ 0
+    ∷ 0 ∷ 1 ∷ 0 ∷ 0 ∷ 0 ∷ 0x0c ∷ 0 ∷ 1 ∷ 0 ∷ 0 ∷ 0 ∷ 0x10
+    ∷ 0 ∷ 1 ∷ 0 ∷ 0
+    ∷ 0 ∷ 1 ∷ 0 ∷ 0 ∷ 0 ∷ 0
+    ∷ []
+
+-- H1: an advance map of three entries, then the store; one region with no axes, three rows.
+pub h1-font : List ℕ
+h1-font =
+    0 ∷ 0 ∷ 0 ∷ 0
+    ∷ 0 ∷ 1 ∷ 0 ∷ 0 ∷ 0 ∷ 0 ∷ 0 ∷ 0x18 ∷ 0 ∷ 0 ∷ 0 ∷ 0x10 ∷ 0 ∷ 0 ∷ 0 ∷ 0
+    ∷ 0 ∷ 7 ∷ 0 ∷ 3 ∷ 0 ∷ 1 ∷ 2 ∷ 0
+    ∷ 0 ∷ 1 ∷ 0 ∷ 0 ∷ 0 ∷ 0x0c ∷ 0 ∷ 1 ∷ 0 ∷ 0 ∷ 0 ∷ 0x10
+    ∷ 0 ∷ 0 ∷ 0 ∷ 1
+    ∷ 0 ∷ 3 ∷ 0 ∷ 0 ∷ 0 ∷ 1 ∷ 0 ∷ 0 ∷ 0x0a ∷ 0x0b ∷ 0x0c
+    ∷ []
+
+pub S1 : (metricDelta s1-font 4 advance 0 (pos 8192 ∷ []) ≡ value (pos 3276800))
+    × (metricDelta s1-font 4 advance 0 (pos 16384 ∷ []) ≡ value (pos 6553600))
+    × (metricDelta s1-font 4 advance 0 (pos 0 ∷ []) ≡ value (pos 0))
+    × (metricDelta s1-font 4 advance 0 (negsuc 0 ∷ []) ≡ value (pos 0))
+unfolding computing s1-font
+S1 = (refl, refl, refl, refl)
+
+-- Its bearing has no map.
+pub S1-bearing : metricDelta s1-font 4 bearing 0 (pos 8192 ∷ []) ≡ refused 1
+unfolding computing s1-font
+S1-bearing = refl
+
+pub S2 : metricDelta s2-font 4 advance 0 (pos 4096 ∷ []) ≡ value (pos 65535)
+unfolding computing s2-font
+S2 = refl
+
+-- The scalar by itself, at any coordinates, since the triple is skipped; and three times it, where the coordinate is missing.
+pub S3 : ((coords : List ℤ) → run s3-font (regionScalar coords 1 36) ≡ value (pos 65536)) × (metricDelta s3-font 4 advance 0 [] ≡ value (pos 196608))
+unfolding computing s3-font
+S3 = (λ coords. refl, refl)
+
+-- The sum of the two offsets is tested before the map's offset is read, which is cut here.
+pub sum-before-map : metricDelta (0 ∷ 0 ∷ 0 ∷ 0 ∷ 0 ∷ 1 ∷ 0 ∷ 0 ∷ 0xff ∷ 0xff ∷ 0xff ∷ 0xfc ∷ []) 4 advance 0 [] ≡ refused 5
+unfolding computing
+sum-before-map = refl
+
+-- The positions that a reading reads, in its order.
+pub order : {A : Type 0} → List ℕ → Reading A → List ℕ
+order font (answer a) = []
+order font (refuse n) = []
+order font (tested t n r) = order font r
+order font (bytesAt n p f) = p ∷ order font (f (bigEndian n font p))
+
+-- Of S1's store, at 20: count, region list with its two counts, subtable with its two counts; then the region index, the triple, the entry.
+pub S1-order : order s1-font (deltaIn (pos 8192 ∷ []) 20 0 0) ≡ 26 ∷ 22 ∷ 32 ∷ 34 ∷ 28 ∷ 46 ∷ 44 ∷ 48 ∷ 36 ∷ 38 ∷ 40 ∷ 50 ∷ []
+unfolding computing s1-font order
+S1-order = refl
+
+-- Document 01's second misreading. The second triple is cut: it is not read where the coordinate is outside the first, and refused where the scalar became 0 at its start.
+pub cut-triple : (run (0 ∷ 0 ∷ 0x40 ∷ 0 ∷ 0x40 ∷ 0 ∷ []) (regionScalar (negsuc 0 ∷ []) 2 0) ≡ value (pos 0)) × (run (0 ∷ 0 ∷ 0x40 ∷ 0 ∷ 0x40 ∷ 0 ∷ []) (regionScalar (pos 0 ∷ []) 2 0) ≡ refused 2)
+unfolding computing
+cut-triple = (refl, refl)
+
+pub S4 : metricDelta s4-font 4 advance 0 [] ≡ value (negsuc 131071)
+unfolding computing s4-font
+S4 = refl
+
+pub S5 : metricDelta s5-font 4 advance 0 [] ≡ value (pos 0)
+unfolding computing s5-font
+S5 = refl
+
+-- Glyphs 0 and 1 use their own entries; 2, 3 and 65535 use entry 2.
+pub H1 : (metricDelta h1-font 4 advance 0 [] ≡ value (pos 655360))
+    × (metricDelta h1-font 4 advance 1 [] ≡ value (pos 720896))
+    × (metricDelta h1-font 4 advance 2 [] ≡ value (pos 786432))
+    × (metricDelta h1-font 4 advance 3 [] ≡ value (pos 786432))
+    × (metricDelta h1-font 4 advance 65535 [] ≡ value (pos 786432))
+unfolding computing h1-font
+H1 = (refl, refl, refl, refl, refl)

@@ -1,0 +1,90 @@
+-- A region's triple: its six bytes, its order, and the differences of its numbers. Assumes nothing.
+use mathlib.Core.Path.{_≡_, refl, ap, sym}
+use mathlib.Core.Bool.{Bool, true, false, _||_}
+use mathlib.Core.List.{List}
+use Prim.Native.Nat.{ℕ, _+_, _*_, _%_, _^_, _≤_, _<_}
+use native.Mathlib.Omega.{arith}
+use lib.ListN.{length}
+use lib.IntN.{ℤ, pos, negsuc, _-ℤ_}
+use lib.Signed.{mag, ltZ}
+use mir.Syntax.{w16}
+use mir.Val.{toZ}
+use Rattle.numbers.specs.Numbers.{modZ}
+use Rattle.numbers.proofs.Gaps.{gap, nlt-gap, gap-minus}
+use Rattle.readers.specs.Outcome.{Outcome, value, refused}
+use Rattle.readers.specs.Reading.{Reading, _>>=_, unsignedAt, signedAt, bigEndian, run}
+use Rattle.readers.proofs.Bytes.{present, missing}
+use Rattle.readers.proofs.Passed.{bytes-there, cut-later}
+use Rattle.readers.proofs.Reading.{took-by, stop-by}
+use Rattle.store.specs.Region.{Triple, tripleAt, coordinate, skipped, Tent, under, axisTurn}
+use Rattle.store.specs.RegionAnswers.{tentAt, axisOutcome}
+use Rattle.store.specs.declared.region.AxisAnswer.{AxisAnswer}
+
+-- ---- the bytes
+
+-- The triple that the six bytes at p make.
+abbrev pub tripleIn : List ℕ → ℕ → Triple
+tripleIn font p = record {
+  start = toZ w16 (bigEndian 2 font p);
+  peak = toZ w16 (bigEndian 2 font (p + 2));
+  end = toZ w16 (bigEndian 2 font (p + 4));
+}
+
+-- One test of the six bytes stands for the three reads: all of them refuse alike.
+module _ {A : Type 0} (font : List ℕ) (p : ℕ) (k : Triple → Reading A) where
+  pub triple-there : (w : Outcome A) → p + 6 ≤ length font → w ≡ run font (k (tripleIn font p)) → w ≡ run font (tripleAt p >>= k)
+  unfolding tripleAt signedAt unsignedAt
+  triple-there w h e = present 2 font p _ w (omega arith) (present 2 font (p + 2) _ w (omega arith) (present 2 font (p + 4) _ w (omega arith) e))
+
+  pub triple-cut : length font < p + 6 → refused 2 ≡ run font (tripleAt p >>= k)
+  unfolding tripleAt signedAt unsignedAt
+  triple-cut h = sym (cut-later font 2 p _ (λ x. cut-later font 2 (p + 2) _ (λ y. sym (missing 2 font (p + 4) _ (omega arith)))))
+
+  -- A value was made of the triple.
+  pub triple-was : (a : A) → run font (tripleAt p >>= k) ≡ value a → run font (k (tripleIn font p)) ≡ value a
+  unfolding tripleAt signedAt unsignedAt
+  triple-was a e = bytes-there font 2 (p + 4) _ a (bytes-there font 2 (p + 2) _ a (bytes-there font 2 p _ a e .1) .1) .1
+
+-- ---- an axis of a region, by what `axis_at` answers
+
+module _ (coords : List ℤ) (p axis : ℕ) (scalar : ℤ) (onward : ℤ → Reading ℤ) where
+  axis-parts : axisTurn coords p axis scalar onward ≡ (tentAt (p + 6 * axis) (coordinate coords axis) scalar >>= λ t. under t onward)
+  unfolding axisTurn tentAt tripleAt signedAt unsignedAt
+  axis-parts = refl
+
+  -- c is the coordinate that the code found; r is what `axis_at` answered, and v the case that it was.
+  module _ (font : List ℕ) {c : ℤ} {r v : AxisAnswer} (found : c ≡ coordinate coords axis) (told : axisOutcome r ≡ run font (tentAt (p + 6 * axis) c scalar)) (was : r ≡ v) where
+    pub axis-took : (w : Outcome ℤ) (t : Tent) → axisOutcome v ≡ value t → w ≡ run font (under t onward) → w ≡ run font (axisTurn coords p axis scalar onward)
+    axis-took w t e g = rw (axis-parts, ← found) (took-by axisOutcome font _ (λ t. under t onward) w told was e g)
+
+    pub axis-stop : {n : ℕ} → axisOutcome v ≡ refused n → refused n ≡ run font (axisTurn coords p axis scalar onward)
+    axis-stop e = rw (axis-parts, ← found) (stop-by axisOutcome font _ (λ t. under t onward) told was e)
+
+-- ---- the order
+
+pub neither : (a b : Bool) → (a || b) ≡ false → (a ≡ false) × (b ≡ false)
+neither true b e = (e, cc)
+neither false b e = (refl, e)
+
+-- A triple that is not skipped rises to its peak and falls from it.
+pub in-order : (t : Triple) → skipped t ≡ false → (ltZ (t .peak) (t .start) ≡ false) × (ltZ (t .end) (t .peak) ≡ false)
+unfolding skipped
+in-order t e = neither _ _ (neither _ _ (neither _ _ e .0) .0)
+
+-- ---- a difference of two 2.14 numbers
+
+module _ (x y : ℤ) (p : mag x < 2 ^ 15) (q : mag y < 2 ^ 15) where
+  pub gap-small : gap x y < 0x1_0000
+  gap-small = go x y p q
+    where
+      go : (x y : ℤ) → mag x < 2 ^ 15 → mag y < 2 ^ 15 → gap x y < 0x1_0000
+      go (pos a) (pos b) p q = omega arith
+      go (pos a) (negsuc b) p q = omega arith
+      go (negsuc a) (pos b) p q = omega arith
+      go (negsuc a) (negsuc b) p q = omega arith
+
+  -- Where y is not below x, its 16 bits are the difference itself.
+  pub difference-bits : ltZ y x ≡ false → pos (modZ (y -ℤ x) 0x1_0000) ≡ y -ℤ x
+  difference-bits h =
+      let e : gap x y % 0x1_0000 ≡ gap x y = omega (arith, gap-small) in
+      rw (gap-minus x y (nlt-gap y x h)) (ap pos e)

@@ -1,0 +1,9 @@
+-- What the contracts of `store` cite.
+pub mod Region
+pub mod RegionAnswers
+pub mod Item
+pub mod ItemAnswers
+pub mod Metric
+pub mod MetricAnswers
+pub mod Mvar
+pub mod MvarAnswers

@@ -1,0 +1,69 @@
+-- VariationRegion: how far a region applies at some coordinates (OpenType, common table formats, "Variation regions" and "Algorithm for
+-- interpolation of instance values"; document 01, "The item variation store").
+use Prim.Native.Nat.{ℕ, _+_, _*_}
+use mathlib.Core.Bool.{Bool, cond, not, _&&_, _||_}
+use mathlib.Core.List.{List}
+use lib.ListN.{getD}
+use lib.IntN.{ℤ, pos, _-ℤ_}
+use lib.Signed.{ltZ}
+use mir.Syntax.{w16}
+use Rattle.numbers.specs.Numbers.{fromF2dot14, times, over}
+use Rattle.readers.specs.Reading.{Reading, answer, _>>=_, signedAt}
+use Rattle.readers.specs.Walk.{Turn, walk}
+
+-- A normalised coordinate, in 2.14; a missing one is 0.
+abbrev pub coordinate : List ℤ → ℕ → ℤ
+coordinate coords axis = getD coords axis (pos 0)
+
+-- RegionAxisCoordinates: startCoord, peakCoord, endCoord, in 2.14.
+pub record Triple : Type 0 where
+  pub start : ℤ
+  pub peak : ℤ
+  pub end : ℤ
+
+unfoldable pub tripleAt : ℕ → Reading Triple
+tripleAt p = do
+  start ← signedAt w16 p
+  peak ← signedAt w16 (p + 2)
+  end ← signedAt w16 (p + 4)
+  answer (record { start = start; peak = peak; end = end })
+
+-- Whether a and b are the same number: neither is below the other.
+abbrev pub same : ℤ → ℤ → Bool
+same a b = not (ltZ a b || ltZ b a)
+
+-- A triple that is skipped: start > peak, peak > end, peak = 0, or start < 0 < end.
+unfoldable pub skipped : Triple → Bool
+skipped t = ltZ (t .peak) (t .start) || ltZ (t .end) (t .peak) || same (t .peak) (pos 0) || (ltZ (t .start) (pos 0) && ltZ (pos 0) (t .end))
+
+-- A 16.16 scalar multiplied by a part of a way, then divided by the whole way, both in 2.14.
+abbrev pub scaled : ℤ → ℤ → ℤ → ℤ
+scaled scalar part whole = over (times scalar (fromF2dot14 part)) (fromF2dot14 whole)
+
+-- What a triple makes of the scalar: the region goes on with another; or it is left, with the scalar 0.
+pub data Tent : Type 0 where
+  next : ℤ → Tent
+  outside : Tent
+
+unfoldable pub tent : Triple → ℤ → ℤ → Tent
+tent t c scalar =
+    cond (skipped t) (next scalar)
+    (cond (ltZ c (t .start) || ltZ (t .end) c) outside
+    (cond (same c (t .peak)) (next scalar)
+    (cond (ltZ c (t .peak)) (next (scaled scalar (c -ℤ t .start) (t .peak -ℤ t .start)))
+    (next (scaled scalar (t .end -ℤ c) (t .end -ℤ t .peak))))))
+
+-- Outside, the region is read no further.
+abbrev pub under : Tent → (ℤ → Reading ℤ) → Reading ℤ
+under (next scalar) onward = onward scalar
+under outside onward = answer (pos 0)
+
+-- The axis of a region whose triples start at p.
+unfoldable pub axisTurn : List ℤ → ℕ → Turn ℤ (Reading ℤ)
+axisTurn coords p axis scalar onward = do
+  t ← tripleAt (p + 6 * axis)
+  under (tent t (coordinate coords axis) scalar) onward
+
+-- The scalar of a region, from 1 through all of its axes.
+unfoldable pub regionScalar : List ℤ → ℕ → ℕ → Reading ℤ
+regionScalar coords axisCount p = walk (axisTurn coords p) answer axisCount 0 (pos 65536)

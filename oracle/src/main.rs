@@ -3,6 +3,7 @@
 mod axes;
 mod numbers;
 mod random;
+mod store;
 mod swash;
 mod text;
 
@@ -12,7 +13,7 @@ use std::io::{self, BufRead, BufReader, BufWriter, Write};
 use std::process::ExitCode;
 
 const USAGE: &str = "\
-oracle cases SEED COUNT SUBJECT      write COUNT cases of numbers, of axes or of all
+oracle cases SEED COUNT SUBJECT      write COUNT cases of numbers, axes, store or all
 oracle sample SEED                   write the cases of the stored sample
 oracle answers                       answer the cases on standard input
 oracle stops                         of the cases on standard input write those on which the Rust stops
@@ -28,7 +29,7 @@ pub enum Rust {
     None,
     /// panics, by an overflow check
     Stops,
-    /// has no counterpart: a list too short, lists of different length
+    /// has no counterpart: a list too short, lists of different length, an outer index over 16 bits
     Silent,
 }
 
@@ -78,7 +79,9 @@ fn expected(line: &str) -> Option<Expected> {
         return None;
     }
     let number = numbers::parse(line).map(|case| case.expected());
-    number.or_else(|| axes::parse(line).map(|case| case.expected()))
+    number
+        .or_else(|| axes::parse(line).map(|case| case.expected()))
+        .or_else(|| store::parse(line).map(|case| case.expected()))
 }
 
 /// What stands for a line that is no case.
@@ -224,12 +227,14 @@ fn cases(seed: &str, count: &str, subject: &str) -> Option<Box<dyn Iterator<Item
     let seed = seed.parse().ok()?;
     let numbers = numbers::cases::Cases::new(seed);
     let mut axes = axes::cases::Cases::new(seed);
+    let mut store = store::cases::Cases::new(seed);
     let all: Box<dyn Iterator<Item = String>> = match subject {
         "numbers" => Box::new(numbers),
         "axes" => Box::new(axes),
+        "store" => Box::new(store),
         "all" => Box::new(
             numbers
-                .flat_map(move |number| [Some(number), axes.next()])
+                .flat_map(move |number| [Some(number), axes.next(), store.next()])
                 .flatten(),
         ),
         _ => return None,
@@ -247,6 +252,7 @@ fn run(words: &[&str]) -> Option<bool> {
             let seed = seed.parse().ok()?;
             write_all(numbers::cases::sample(seed, SAMPLE).into_iter());
             write_all(axes::cases::sample(seed, SAMPLE).into_iter());
+            write_all(store::cases::sample(seed, SAMPLE).into_iter());
         }
         ["answers"] => {
             let answer = |line: String| {

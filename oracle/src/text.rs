@@ -58,6 +58,16 @@ pub fn list(word: &str) -> Option<Vec<u32>> {
     elements.filter(|list| list.len() <= LIST)
 }
 
+/// A list of 2.14 numbers, raw, with a comma between two.
+pub fn halves(word: &str) -> Option<Vec<i16>> {
+    if word == EMPTY {
+        return Some(vec![]);
+    }
+    let half = |element| i16::try_from(integer(element)?).ok();
+    let elements: Option<Vec<i16>> = word.split(',').map(half).collect();
+    elements.filter(|list| list.len() <= LIST)
+}
+
 pub fn bytes_text(bytes: impl Iterator<Item = u8>) -> String {
     let text: String = bytes.map(|b| format!("{b:02x}")).collect();
     if text.is_empty() {

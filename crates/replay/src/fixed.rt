@@ -2,6 +2,7 @@
 use crate::Buffer;
 use crate::parse;
 use crate::parse::Parsed;
+use crate::parse::Place;
 use crate::print;
 use crate::words::count;
 use crate::words::same;
@@ -135,13 +136,10 @@ fn number(x: Fixed) -> Answer {
 
 // The 2.14 number with the 32 bits n, where it is one.
 fn widened(n: u32) -> Answer {
-    if n < 0x8000 {
-        return number(Fixed::from_f2dot14(F2Dot14::from_bits(n as u16)));
+    match parse::half_bits(n) {
+        Place::Value(bits) => number(Fixed::from_f2dot14(F2Dot14::from_bits(bits))),
+        Place::Not => Answer::NoCase,
     }
-    if n >= 0xffff_8000 {
-        return number(Fixed::from_f2dot14(F2Dot14::from_bits((n - 0xffff_0000) as u16)));
-    }
-    Answer::NoCase
 }
 
 fn block(a: &[u8], b: &[u8], from: bool) -> Answer {

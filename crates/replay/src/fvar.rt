@@ -16,7 +16,6 @@ use axes::fvar::Fvar;
 use axes::fvar::InstanceAnswer;
 use axes::fvar::NameId;
 use axes::fvar::VarInstance;
-use readers::FixedAnswer;
 use readers::Half;
 
 pub(crate) fn put_line(line: &[u8], out: &mut Buffer, waiting: usize) -> usize {
@@ -27,16 +26,7 @@ pub(crate) fn put_line(line: &[u8], out: &mut Buffer, waiting: usize) -> usize {
     let Size::Value(size) = parse::bytes(word(line, 1), &mut bytes) else {
         return print::put(out, waiting, b'?');
     };
-    put_case(table(&bytes, size), line, out, waiting)
-}
-
-// The bytes that were read.
-fn table(bytes: &Buffer, size: usize) -> &[u8] {
-    let whole: &[u8] = bytes;
-    if size < whole.len() {
-        return &whole[0..size];
-    }
-    whole
+    put_case(parse::first_bytes(&bytes, size), line, out, waiting)
 }
 
 fn put_case(table: &[u8], line: &[u8], out: &mut Buffer, waiting: usize) -> usize {
@@ -82,7 +72,7 @@ fn put_of_one(name: &[u8], table: &[u8], a: &[u8], out: &mut Buffer, waiting: us
         return put_values(table, i, out, waiting);
     }
     if same(name, b"instance_value") {
-        return put_value(axes::fvar::instance_value(table, i), out, waiting);
+        return print::put_fixed(out, waiting, axes::fvar::instance_value(table, i));
     }
     print::put(out, waiting, b'?')
 }
@@ -186,16 +176,6 @@ fn put_values(table: &[u8], index: u16, out: &mut Buffer, waiting: usize) -> usi
     }
     let at = print::put_text(out, waiting, b"value ");
     print::put_bytes(out, at, values)
-}
-
-fn put_value(answer: FixedAnswer, out: &mut Buffer, waiting: usize) -> usize {
-    match answer {
-        FixedAnswer::Value(x) => {
-            let at = print::put_text(out, waiting, b"value");
-            print::put_next_fixed(out, at, x)
-        }
-        FixedAnswer::Refused(r) => print::put_refused(out, waiting, readers::number(r)),
-    }
 }
 
 // The largest float stands where none was written: no 16.16 number has it.

@@ -1,6 +1,7 @@
 // Answers cases from standard input, one to a line, by the functions of this repository: a line of
 // standard output for each. oracle/README.md has the format.
 mod coords;
+mod deltas;
 mod fixed;
 mod fvar;
 mod parse;
@@ -23,10 +24,17 @@ struct State {
 // Answers the line. Each module that answers cases is asked here, until one knows the case.
 fn answer(line: &[u8], out: &mut Buffer, waiting: usize) -> usize {
     let at = match fixed::of_line(line) {
-        fixed::Answer::NoCase => fvar::put_line(line, out, waiting),
+        fixed::Answer::NoCase => answer_other(line, out, waiting),
         a => fixed::put(a, out, waiting),
     };
     print::put(out, at, b'\n')
+}
+
+fn answer_other(line: &[u8], out: &mut Buffer, waiting: usize) -> usize {
+    match deltas::of_line(line) {
+        deltas::Answer::NoCase => fvar::put_line(line, out, waiting),
+        a => deltas::put(a, out, waiting),
+    }
 }
 
 // A line that fills the buffer is no case: its end is not there.

@@ -2,9 +2,11 @@
 ghost use mathlib.Core.Path.{_≡_};
 ghost use Prim.Native.Nat.{_≤_};
 ghost use lib.Ieee.{binary32, ofBits};
+ghost use lib.ListN.{length};
 ghost use Rattle.replay.specs.Parse.{said, digitOf, numberIn, bitsOf, bitsOfMinus, integerBits, floatBits};
 use crate::Buffer;
 use crate::words::same;
+use numbers::F2Dot14;
 
 // A list has at most 256 elements.
 pub(crate) type Bits = [u32; 256];
@@ -238,6 +240,61 @@ fn comma(text: &[u8], at: usize) -> bool {
     true
 }
 
+// A list of 2.14 numbers in decimal, with a comma between two, or a minus for none: how many there are.
+pub(crate) fn halves(text: &[u8], out: &mut Halves) -> Size {
+    if same(text, b"-") {
+        return Size::Value(0);
+    }
+    let mut n = 0;
+    let mut from = 0;
+    while n < 256 {
+        let rest = &text[from..];
+        let end = first_comma(rest);
+        out[n] = match half(&rest[..end]) {
+            Place::Value(bits) => F2Dot14::from_bits(bits).0,
+            Place::Not => return Size::Not,
+        };
+        n += 1;
+        if end == rest.len() {
+            return Size::Value(n);
+        }
+        from += end + 1;
+    }
+    Size::Not
+}
+
+// Where the first comma stands, or the end.
+fn first_comma(text: &[u8]) -> usize
+    ensures { λ r. ⌜ r ≤ length (now (text .entry)) ⌝ }
+{
+    let mut i = 0;
+    while i < text.len() {
+        if text[i] == b',' {
+            return i;
+        }
+        i += 1;
+    }
+    i
+}
+
+fn half(text: &[u8]) -> Place {
+    match integer(text) {
+        Parsed::Value(n) => half_bits(n),
+        Parsed::Not => Place::Not,
+    }
+}
+
+// The 16 bits of the 2.14 number with the 32 bits n, where it is one.
+pub(crate) fn half_bits(n: u32) -> Place {
+    if n < 0x8000 {
+        return Place::Value(n as u16);
+    }
+    if n >= 0xffff_8000 {
+        return Place::Value((n - 0xffff_0000) as u16);
+    }
+    Place::Not
+}
+
 // The floats with the first `size` bits of a list.
 pub(crate) fn floats(bits: &Bits, size: usize, out: &mut Floats) {
     let mut i = 0;
@@ -260,6 +317,22 @@ pub(crate) fn first(list: &Bits, size: usize) -> &[u32] {
 
 pub(crate) fn first_floats(list: &Floats, size: usize) -> &[f32] {
     let whole: &[f32] = list;
+    if size < whole.len() {
+        return &whole[0..size];
+    }
+    whole
+}
+
+pub(crate) fn first_halves(list: &Halves, size: usize) -> &[i16] {
+    let whole: &[i16] = list;
+    if size < whole.len() {
+        return &whole[0..size];
+    }
+    whole
+}
+
+pub(crate) fn first_bytes(bytes: &Buffer, size: usize) -> &[u8] {
+    let whole: &[u8] = bytes;
     if size < whole.len() {
         return &whole[0..size];
     }

@@ -3,6 +3,7 @@ use crate::Buffer;
 use libc::STDOUT_FILENO;
 use numbers::F2Dot14;
 use numbers::Fixed;
+use readers::FixedAnswer;
 use readers::Half;
 
 // Puts a byte behind those that wait, and answers how many wait then.
@@ -127,6 +128,17 @@ pub(crate) fn put_count(out: &mut Buffer, waiting: usize, answer: Half) -> usize
             put_next(out, at, n as u64)
         }
         Half::Refused(r) => put_refused(out, waiting, readers::number(r)),
+    }
+}
+
+// A 16.16 number or a refusal.
+pub(crate) fn put_fixed(out: &mut Buffer, waiting: usize, answer: FixedAnswer) -> usize {
+    match answer {
+        FixedAnswer::Value(x) => {
+            let at = put_text(out, waiting, b"value");
+            put_next_fixed(out, at, x)
+        }
+        FixedAnswer::Refused(r) => put_refused(out, waiting, readers::number(r)),
     }
 }
 

@@ -1,5 +1,5 @@
 -- The document's examples; the laws that the proofs of `store` share, by subject; scalars in their range; no second answer.
-pub mod StoreTable
+pub mod DeltaTable
 pub mod MvarTable
 pub mod Triples
 pub mod Scalars

@@ -1,7 +1,23 @@
--- No second answer: two answers that the contract of `mvar_delta` allows are the same. Assumes nothing.
-use mathlib.Core.Path.{_≡_}
-use Rattle.readers.proofs.One.{oneFixed}
+-- No second answer: for each plain public function of `mvar`, two answers that its contract allows are the same. Assumes nothing.
+use mathlib.Core.Path.{_≡_, refl, ap}
+use Rattle.readers.proofs.One.{refusal-back, back, one-by, oneFixed}
+use Rattle.store.specs.Mvar.{Header}
+use Rattle.store.specs.MvarAnswers.{headerOutcome}
+use Rattle.store.specs.declared.mvar.HeaderAnswer.{HeaderAnswer}
+use Rattle.store.specs.declared.mvar.HeaderAnswer.the-variants as H
 use Rattle.store.proofs.mvar.mvar_delta.Reads as mvar-delta
+use Rattle.store.proofs.mvar.mvar_header.Reads as mvar-header
+
+-- The answer whose value is a header.
+abbrev headed : Header → HeaderAnswer
+headed h = H.Value (record { «rec_size» = h .valueRecordSize; «rec_count» = h .valueRecordCount; store = h .itemVariationStoreOffset })
+
+header-back : (r : HeaderAnswer) → back headed H.Refused (headerOutcome r) ≡ r
+header-back (H.Value h) = refl
+header-back (H.Refused n) = ap H.Refused (refusal-back n)
+
+pub mvar-header-one : (κs : _) (a : _) (r r′ : _) (s s′ : _) → mvar-header.Post κs a r s → mvar-header.Post κs a r′ s′ → r ≡ r′
+mvar-header-one κs a r r′ s s′ p q = one-by headerOutcome headed H.Refused header-back p q
 
 pub mvar-delta-one : (κs : _) (a : _) (r r′ : _) (s s′ : _) → mvar-delta.Post κs a r s → mvar-delta.Post κs a r′ s′ → r ≡ r′
 mvar-delta-one κs a r r′ s s′ p q = oneFixed p q

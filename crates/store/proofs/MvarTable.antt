@@ -5,7 +5,7 @@ use mathlib.Core.List.{List, [], _∷_, _++_}
 use lib.IntN.{ℤ, pos, negsuc}
 use Rattle.readers.specs.Outcome.{value, refused}
 use Rattle.store.specs.Mvar.{headerAt, indexIn, searchIn, find, tagDelta, mvarDelta}
-use Rattle.store.proofs.StoreTable.{computing}
+use Rattle.store.proofs.DeltaTable.{computing}
 
 -- What an example unfolds beside what those of the store do.
 opening : Unit {0}

@@ -21,13 +21,13 @@ ghost use Rattle.store.specs.Mvar.{headerAt, find, tagDelta, mvarDelta, 
 ghost use Rattle.store.specs.MvarAnswers.{headerOf, numbersOf, headerOutcome, foundOutcome, openedOf, liesAt};
 
 // The numbers of the header.
-pub(crate) struct Header {
-    pub(crate) rec_size: u16,
-    pub(crate) rec_count: u16,
-    pub(crate) store: u16,
+pub struct Header {
+    pub rec_size: u16,
+    pub rec_count: u16,
+    pub store: u16,
 }
 
-enum HeaderAnswer {
+pub enum HeaderAnswer {
     Value(Header),
     Refused(Refusal),
 }
@@ -142,6 +142,14 @@ fn part_from<'a>(font: &'a [u8], start: u32) -> &'a [u8]
         return &font[..0];
     }
     &font[from..]
+}
+
+// The numbers of the MVAR at an offset of the font, or why it does not open.
+pub fn mvar_header(font: &[u8], mvar: u32) -> HeaderAnswer
+    ensures { λ r. ⌜ headerOutcome r ≡ run (drop mvar (now (font .entry))) headerAt ⌝ }
+{
+    let part = part_from(font, mvar);
+    header_at(part)
 }
 
 // The delta of a tag by the MVAR at an offset of the font. An offset of 0 is opened like any other: who has no MVAR tests for it.

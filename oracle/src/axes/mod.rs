@@ -2,7 +2,7 @@
 //! answer.
 
 pub mod cases;
-mod rules;
+pub mod rules;
 
 use crate::numbers::rules::to_f32;
 use crate::swash::internal::fixed::Fixed;

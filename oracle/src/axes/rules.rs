@@ -4,10 +4,10 @@
 
 use crate::numbers::rules::{from_f32, to_f2dot14, wrap32};
 
-type Answer<T> = Result<T, u8>;
+pub type Answer<T> = Result<T, u8>;
 
 /// The number that n bytes at p make.
-fn unsigned(table: &[u8], p: usize, n: usize) -> Answer<i128> {
+pub fn unsigned(table: &[u8], p: usize, n: usize) -> Answer<i128> {
     if p + n > table.len() {
         return Err(2);
     }

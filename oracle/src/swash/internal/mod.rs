@@ -1,9 +1,11 @@
 //! Stands in for swash's own `internal/mod.rs`, which names tables that are not used here. The
-//! build puts swash's files beside this one, unchanged.
+//! build puts swash's files beside this one, unchanged; and as `shown.rs` the text of `var.rs` once
+//! more, with `hook.rs` behind it.
 #![allow(dead_code, unused_imports)]
 
 pub mod fixed;
 mod parse;
+pub mod shown;
 pub mod var;
 
 pub use parse::*;

@@ -1,0 +1,151 @@
+// Cases of the item variation store, of a glyph's deltas and of MVAR.
+use crate::Buffer;
+use crate::parse;
+use crate::parse::Parsed;
+use crate::parse::Place;
+use crate::parse::Size;
+use crate::print;
+use crate::words::count;
+use crate::words::same;
+use crate::words::word;
+use readers::FixedAnswer;
+use store::item;
+use store::metric;
+use store::mvar;
+use store::mvar::Header;
+use store::mvar::HeaderAnswer;
+
+pub(crate) enum Answer {
+    Delta(FixedAnswer),
+    Float(f32),
+    Opened(HeaderAnswer),
+    NoCase,
+}
+
+pub(crate) fn put(answer: Answer, out: &mut Buffer, waiting: usize) -> usize {
+    match answer {
+        Answer::Delta(delta) => print::put_fixed(out, waiting, delta),
+        Answer::Float(x) => {
+            let at = print::put_text(out, waiting, b"value");
+            print::put_next_float(out, at, x)
+        }
+        Answer::Opened(header) => put_header(header, out, waiting),
+        Answer::NoCase => print::put(out, waiting, b'?'),
+    }
+}
+
+fn put_header(answer: HeaderAnswer, out: &mut Buffer, waiting: usize) -> usize {
+    match answer {
+        HeaderAnswer::Value(header) => put_numbers(header, out, waiting),
+        HeaderAnswer::Refused(r) => print::put_refused(out, waiting, readers::number(r)),
+    }
+}
+
+fn put_numbers(header: Header, out: &mut Buffer, waiting: usize) -> usize {
+    let mut at = print::put_text(out, waiting, b"value");
+    at = print::put_next(out, at, header.rec_size as u64);
+    at = print::put_next(out, at, header.rec_count as u64);
+    print::put_next(out, at, header.store as u64)
+}
+
+// The coordinates are a case's last word; opening an MVAR has none.
+pub(crate) fn of_line(line: &[u8]) -> Answer {
+    let n = count(line);
+    if n == 3 {
+        if same(word(line, 0), b"mvar_new") {
+            return of_font(line, b"-");
+        }
+    }
+    if n == 5 {
+        return of_font(line, word(line, 4));
+    }
+    if n == 6 {
+        return of_font(line, word(line, 5));
+    }
+    Answer::NoCase
+}
+
+fn of_font(line: &[u8], coords: &[u8]) -> Answer {
+    let mut bytes = io::large_buffer();
+    let Size::Value(size) = parse::bytes(word(line, 1), &mut bytes) else {
+        return Answer::NoCase;
+    };
+    let mut list = parse::empty_halves(0);
+    let Size::Value(n) = parse::halves(coords, &mut list) else {
+        return Answer::NoCase;
+    };
+    let Parsed::Value(offset) = parse::natural(word(line, 2)) else {
+        return Answer::NoCase;
+    };
+    of_offset(
+        line,
+        parse::first_bytes(&bytes, size),
+        offset,
+        parse::first_halves(&list, n),
+    )
+}
+
+fn of_offset<'a>(line: &[u8], font: &'a [u8], offset: u32, coords: &'a [i16]) -> Answer {
+    let name = word(line, 0);
+    let n = count(line);
+    if n == 3 {
+        return Answer::Opened(mvar::mvar_header(font, offset));
+    }
+    if n == 6 {
+        return of_item(line, font, offset, coords);
+    }
+    if same(name, b"mvar_fixed") {
+        return of_tag(font, offset, word(line, 3), coords);
+    }
+    if same(name, b"mvar_delta") {
+        return as_float(of_tag(font, offset, word(line, 3), coords));
+    }
+    of_glyph(name, font, offset, word(line, 3), coords)
+}
+
+fn of_item(line: &[u8], font: &[u8], store: u32, coords: &[i16]) -> Answer {
+    if !same(word(line, 0), b"item_delta") {
+        return Answer::NoCase;
+    }
+    let Parsed::Value(outer) = parse::natural(word(line, 3)) else {
+        return Answer::NoCase;
+    };
+    let Place::Value(inner) = parse::index(word(line, 4)) else {
+        return Answer::NoCase;
+    };
+    Answer::Delta(item::item_delta(font, store, outer, inner, coords))
+}
+
+fn of_tag<'a>(font: &'a [u8], offset: u32, text: &[u8], coords: &'a [i16]) -> Answer {
+    let Parsed::Value(tag) = parse::float_bits(text) else {
+        return Answer::NoCase;
+    };
+    Answer::Delta(mvar::mvar_delta(font, offset, tag, coords))
+}
+
+// A delta as a float.
+fn as_float(answer: Answer) -> Answer {
+    match answer {
+        Answer::Delta(delta) => Answer::Float(metric::float_of(delta)),
+        a => a,
+    }
+}
+
+fn of_glyph(name: &[u8], font: &[u8], base: u32, text: &[u8], coords: &[i16]) -> Answer {
+    let Place::Value(glyph) = parse::index(text) else {
+        return Answer::NoCase;
+    };
+    if same(name, b"advance_fixed") {
+        return Answer::Delta(metric::advance_delta_fixed(font, base, glyph, coords));
+    }
+    if same(name, b"sb_fixed") {
+        return Answer::Delta(metric::sb_delta_fixed(font, base, glyph, coords));
+    }
+    if same(name, b"advance_delta") {
+        return Answer::Float(metric::advance_delta(font, base, glyph, coords));
+    }
+    if same(name, b"sb_delta") {
+        return Answer::Float(metric::sb_delta(font, base, glyph, coords));
+    }
+    Answer::NoCase
+}

@@ -1,0 +1,174 @@
+//! The rules for the item variation store, HVAR, VVAR and MVAR, from their text alone, in exact
+//! integers. Nothing here is taken from the Rust or from the Rattle, so that it judges both. A
+//! refusal is its number.
+
+use crate::axes::rules::{unsigned, Answer};
+use crate::numbers::rules::{div, from_f2dot14, mul, wrap32};
+
+/// The signed number that n bytes at p make.
+fn signed(font: &[u8], p: usize, n: usize) -> Answer<i128> {
+    let half = 1 << (8 * n - 1);
+    unsigned(font, p, n).map(|x| if x < half { x } else { x - 2 * half })
+}
+
+/// An unsigned number that counts, or leads to a place.
+fn place(font: &[u8], p: usize, n: usize) -> Answer<usize> {
+    unsigned(font, p, n).map(|x| x as usize)
+}
+
+/// A 16.16 number times one gap between 2.14 numbers, then divided by another.
+fn scaled(scalar: i128, gap: i128, by: i128) -> i128 {
+    let wide = |x| from_f2dot14(x) as i128;
+    div(mul(scalar, wide(gap)) as i128, wide(by)) as i128
+}
+
+/// The scalar of the region whose triples start at p.
+fn scalar(font: &[u8], p: usize, axis_count: usize, coords: &[i16]) -> Answer<i128> {
+    let mut scalar = 65536;
+    for axis in 0..axis_count {
+        let start = signed(font, p + 6 * axis, 2)?;
+        let peak = signed(font, p + 6 * axis + 2, 2)?;
+        let end = signed(font, p + 6 * axis + 4, 2)?;
+        let coord = coords.get(axis).map_or(0, |c| *c as i128);
+        if start > peak || peak > end || peak == 0 || (start < 0 && 0 < end) {
+            continue;
+        }
+        if coord < start || end < coord {
+            return Ok(0);
+        }
+        if coord < peak {
+            scalar = scaled(scalar, coord - start, peak - start);
+        } else if coord > peak {
+            scalar = scaled(scalar, end - coord, end - peak);
+        }
+        assert!((0..=65536).contains(&scalar));
+    }
+    Ok(scalar)
+}
+
+/// Order: offset 0; subtable count; outer; region list offset; axis count, region count; subtable
+/// offset; region index count; word count; refusal 5. For each region index in turn: read it, refuse
+/// 3 if too large, walk the region's triples, then read the entry.
+pub fn item(font: &[u8], store: usize, outer: usize, inner: usize, coords: &[i16]) -> Answer<i64> {
+    if store == 0 {
+        return Err(1);
+    }
+    let subtable_count = place(font, store + 6, 2)?;
+    if outer >= subtable_count {
+        return Err(3);
+    }
+    let regions = store + place(font, store + 2, 4)?;
+    let axis_count = place(font, regions, 2)?;
+    let region_count = place(font, regions + 2, 2)?;
+    let subtable = store + place(font, store + 8 + 4 * outer, 4)?;
+    let index_count = place(font, subtable + 4, 2)?;
+    let word_count = place(font, subtable + 2, 2)?;
+    if word_count > index_count {
+        return Err(5);
+    }
+    let indices = subtable + 6;
+    let mut entry = indices + 2 * index_count + inner * (index_count + word_count);
+    let mut sum = 0;
+    for k in 0..index_count {
+        let region = place(font, indices + 2 * k, 2)?;
+        if region >= region_count {
+            return Err(3);
+        }
+        let triples = regions + 4 + 6 * axis_count * region;
+        let scalar = scalar(font, triples, axis_count, coords)?;
+        let size = if k < word_count { 2 } else { 1 };
+        sum += scalar * signed(font, entry, size)?;
+        entry += size;
+    }
+    Ok(wrap32(sum))
+}
+
+/// Where a table's map offset is.
+#[derive(Clone, Copy, PartialEq)]
+pub enum Map {
+    Advance = 8,
+    Bearing = 12,
+}
+
+/// Order: base 0, store offset, its 0, its sum with base, map offset, its 0, format, count, count 0,
+/// entry, then the store's.
+pub fn metric(font: &[u8], base: usize, map: Map, glyph: usize, coords: &[i16]) -> Answer<i64> {
+    if base == 0 {
+        return Err(1);
+    }
+    let store = place(font, base + 4, 4)?;
+    if store == 0 {
+        return Err(1);
+    }
+    if store + base >= 1 << 32 {
+        return Err(5);
+    }
+    let offset = place(font, base + map as usize, 4)?;
+    if offset == 0 && map == Map::Bearing {
+        return Err(1);
+    }
+    let (outer, inner) = match offset {
+        0 => (0, glyph),
+        _ => map_entry(font, base + offset, glyph)?,
+    };
+    item(font, store + base, outer, inner, coords)
+}
+
+/// A glyph's outer and inner index, by the map at p. A glyph at or past the count uses the last
+/// entry; the outer index keeps its low 16 bits.
+fn map_entry(font: &[u8], p: usize, glyph: usize) -> Answer<(usize, usize)> {
+    let format = place(font, p, 2)?;
+    let count = place(font, p + 2, 2)?;
+    if count == 0 {
+        return Err(5);
+    }
+    let size = format / 16 % 4 + 1;
+    let entry = place(font, p + 4 + size * glyph.min(count - 1), size)?;
+    let inners = 1 << (format % 16 + 1);
+    Ok((entry / inners % 65536, entry % inners))
+}
+
+pub struct Mvar<'a> {
+    part: &'a [u8],
+    pub record_size: usize,
+    pub record_count: usize,
+    pub store: usize,
+}
+
+/// Reads size, count, store, then gives 1. All positions count from the table's start.
+pub fn open(font: &[u8], offset: usize) -> Answer<Mvar<'_>> {
+    let part = font.get(offset..).unwrap_or(&[]);
+    let mvar = Mvar {
+        part,
+        record_size: place(part, 6, 2)?,
+        record_count: place(part, 8, 2)?,
+        store: place(part, 10, 2)?,
+    };
+    if mvar.record_count == 0 || mvar.store == 0 {
+        return Err(1);
+    }
+    Ok(mvar)
+}
+
+/// Search from l = 0, h = count, middle floor((l + h) / 2); the record has its inner index at 4, its
+/// outer index at 6.
+pub fn tag_delta(font: &[u8], offset: usize, tag: u32, coords: &[i16]) -> Answer<i64> {
+    let mvar = open(font, offset)?;
+    let (mut l, mut h) = (0, mvar.record_count);
+    while l < h {
+        let middle = (l + h) / 2;
+        let record = 12 + middle * mvar.record_size;
+        let found = unsigned(mvar.part, record, 4)?;
+        if found == tag as i128 {
+            let inner = place(mvar.part, record + 4, 2)?;
+            let outer = place(mvar.part, record + 6, 2)?;
+            return item(mvar.part, mvar.store, outer, inner, coords);
+        }
+        if (tag as i128) < found {
+            h = middle;
+        } else {
+            l = middle + 1;
+        }
+    }
+    Err(4)
+}

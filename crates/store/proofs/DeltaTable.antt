@@ -94,6 +94,11 @@ pub S2 : metricDelta s2-font 4 advance 0 (pos 4096 ∷ []) ≡ value (pos 65535)
 unfolding computing s2-font
 S2 = refl
 
+-- Where the order of its two steps shows: divided first, the scalar would be 43706 and not 43707.
+pub multiplies-first : metricDelta s2-font 4 advance 0 (pos 8195 ∷ []) ≡ value (pos 131121)
+unfolding computing s2-font
+multiplies-first = refl
+
 -- The scalar by itself, at any coordinates, since the triple is skipped; and three times it, where the coordinate is missing.
 pub S3 : ((coords : List ℤ) → run s3-font (regionScalar coords 1 36) ≡ value (pos 65536)) × (metricDelta s3-font 4 advance 0 [] ≡ value (pos 196608))
 unfolding computing s3-font

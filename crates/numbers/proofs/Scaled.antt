@@ -11,7 +11,7 @@ use mir.Syntax.{w32}
 use mir.Val.{toZ}
 use mir.ValLaws.{toZ-pos}
 use borrow.Author.Tests.{ne-eqb}
-use Rattle.numbers.specs.Numbers.{modZ, wrap32, fromF2dot14, times, quotient, over}
+use Rattle.numbers.specs.Numbers.{modZ, wrap32, fromF2dot14, times, quotient, over, scaled}
 use Rattle.numbers.proofs.Bits.{wrap-small}
 
 -- a number with a low first bit is what its bits make
@@ -56,7 +56,7 @@ module _ (n part : ℕ) (scalar : n ≤ 0x1_0000) (gap : part < 0x1_0000) where
       let e : (n * (part * 4) + 32768) / 65536 ≡ (n * part + 0x2000) / 0x4000 = rw (sym (mul-assoc n part 4)) (omega arith) in
       rw e (wrap-small (pos ((n * part + 0x2000) / 0x4000)) (omega (arith, product-small)))
 
-  pub scaled-is : (whole : ℕ) → wrap32 (pos (quotient ((n * part + 0x2000) / 0x4000 * 0x4000) whole)) ≡ over (times (pos n) (fromF2dot14 (pos part))) (fromF2dot14 (pos whole))
+  pub scaled-is : (whole : ℕ) → wrap32 (pos (quotient ((n * part + 0x2000) / 0x4000 * 0x4000) whole)) ≡ scaled (pos n) (pos part) (pos whole)
   unfolding over
   scaled-is whole =
       let m = (n * part + 0x2000) / 0x4000 in

@@ -4,7 +4,7 @@ use mathlib.Core.List.{List, [], _∷_}
 use Prim.Native.Nat.{ℕ}
 use lib.IntN.{ℤ, pos, negsuc}
 use lib.Ieee.{Float, binary32, ofBits, add, mul, toSigned}
-use Rattle.numbers.specs.Numbers.{times, over, wrap32}
+use Rattle.numbers.specs.Numbers.{times, over, scaled, wrap32}
 use Rattle.numbers.specs.Floats.{ofFloat}
 
 -- A float by its bits.
@@ -32,3 +32,8 @@ expected =
 pub table : computed ≡ expected
 unfolding computed expected
 table = refl
+
+-- Two thirds of a way and a little, at S2's peak: divided first it would be 43706.
+pub multiplies-first : scaled (pos 65536) (pos 8195) (pos 12288) ≡ pos 43707
+unfolding times over wrap32
+multiplies-first = refl

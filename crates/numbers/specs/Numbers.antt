@@ -83,6 +83,10 @@ quotient n d = cond (eqb d 0) 0x7fff_ffff ((n + d / 2) / d % 0x1_0000_0000)
 unfoldable pub over : ℤ → ℤ → ℤ
 over a b = wrap32 (withSign (unlike a b) (quotient (natAbs a * 65536) (natAbs b)))
 
+-- A 16.16 scalar multiplied by a part of a way, then divided by the whole way, both in 2.14.
+abbrev pub scaled : ℤ → ℤ → ℤ → ℤ
+scaled scalar part whole = over (times scalar (fromF2dot14 part)) (fromF2dot14 whole)
+
 -- a·b over c by the same rule; minus where an odd number of the three is below 0.
 unfoldable pub timesOver : ℤ → ℤ → ℤ → ℤ
 timesOver a b c = wrap32 (withSign (not (Bool·beq (unlike a b) (isNeg c))) (quotient (natAbs a * natAbs b) (natAbs c)))

@@ -1,13 +1,13 @@
 // The 16.16 and 2.14 numbers (swash's fixed.rs).
 // A number is passed whole: what computes with it goes through its methods, of which `to_bits`, `from_f2dot14`, `to_f32` and `lt` open it.
 ghost use mathlib.Core.Path.{_≡_};
-ghost use Prim.Native.Nat.{_*_, _^_, _≤_, min};
+ghost use Prim.Native.Nat.{_^_, _≤_, min};
 ghost use lib.IntN.{pos, natAbs, _+ℤ_, _-ℤ_, _*ℤ_};
 ghost use lib.Ieee.{toSigned};
 ghost use lib.Signed.{ltZ};
 ghost use mir.Syntax.{w16, w32};
 ghost use mir.Val.{toZ};
-ghost use Rattle.numbers.specs.Numbers.{modZ, wrap32, plus, minus, negated, lesser, greater, fromInteger, fromF2dot14, toF2dot14, isNeg, withSign, times, quotient, over, timesOver};
+ghost use Rattle.numbers.specs.Numbers.{modZ, wrap32, plus, minus, negated, lesser, greater, fromInteger, fromF2dot14, toF2dot14, isNeg, withSign, times, quotient, over, scaled, timesOver};
 ghost use Rattle.numbers.specs.Floats.{ofFloat, toFloat, wholeBits};
 
 // 16.16
@@ -180,7 +180,7 @@ impl Fixed {
     // self times a part of a way, over the whole way, both in 2.14: what `mul` and `div` make of them. For a scalar, which lies in 0..1, nothing of it has
     // a sign, and the factors of 4 that take 2.14 to 16.16 cancel.
     pub fn scaled(self, part: u16, whole: u16) -> Fixed
-        ensures { λ r. ⌜ r .0 ≡ over (times (self .0) (fromF2dot14 (pos part))) (fromF2dot14 (pos whole)) ⌝ }
+        ensures { λ r. ⌜ r .0 ≡ scaled (self .0) (pos part) (pos whole) ⌝ }
     {
         let n = self.to_bits();
         if n <= 0x1_0000 {

@@ -7,13 +7,13 @@ use Rattle.numbers.specs.Numbers.{wrap32, times, over}
 use Rattle.readers.specs.Outcome.{value, refused}
 use Rattle.readers.specs.Reading.{Reading, answer, refuse, tested, bytesAt, unsignedAt, signedAt, bigEndian, run}
 use Rattle.readers.specs.Walk.{turns, walk}
-use Rattle.store.specs.Region.{tripleAt, skipped, tent, axisTurn, regionScalar}
+use Rattle.store.specs.Region.{tripleAt, skipped, tent, tentAt, axisTurn, regionScalar}
 use Rattle.store.specs.Item.{regionList, rowAt, itemAt, regionIndexAt, deltaAt, rowTurn, rowSum, itemSum, deltaIn}
 use Rattle.store.specs.Metric.{advance, bearing, mapEntry, storeOf, deltaSetAt, metricDelta}
 
 -- What every example unfolds.
 unfoldable pub computing : Unit {0}
-unfolding wrap32 times over unsignedAt signedAt bigEndian run turns walk tripleAt skipped tent axisTurn regionScalar regionList rowAt itemAt regionIndexAt deltaAt rowTurn rowSum itemSum deltaIn mapEntry storeOf deltaSetAt metricDelta
+unfolding wrap32 times over unsignedAt signedAt bigEndian run turns walk tripleAt skipped tent tentAt axisTurn regionScalar regionList rowAt itemAt regionIndexAt deltaAt rowTurn rowSum itemSum deltaIn mapEntry storeOf deltaSetAt metricDelta
 computing = tt
 
 -- The fonts: an HVAR at 4, its store, the region list, and one subtable.
@@ -94,11 +94,6 @@ pub S2 : metricDelta s2-font 4 advance 0 (pos 4096 ∷ []) ≡ value (pos 65535)
 unfolding computing s2-font
 S2 = refl
 
--- Where the order of its two steps shows: divided first, the scalar would be 43706 and not 43707.
-pub multiplies-first : metricDelta s2-font 4 advance 0 (pos 8195 ∷ []) ≡ value (pos 131121)
-unfolding computing s2-font
-multiplies-first = refl
-
 -- The scalar by itself, at any coordinates, since the triple is skipped; and three times it, where the coordinate is missing.
 pub S3 : ((coords : List ℤ) → run s3-font (regionScalar coords 1 36) ≡ value (pos 65536)) × (metricDelta s3-font 4 advance 0 [] ≡ value (pos 196608))
 unfolding computing s3-font
@@ -120,6 +115,17 @@ order font (bytesAt n p f) = p ∷ order font (f (bigEndian n font p))
 pub S1-order : order s1-font (deltaIn (pos 8192 ∷ []) 20 0 0) ≡ 26 ∷ 22 ∷ 32 ∷ 34 ∷ 28 ∷ 46 ∷ 44 ∷ 48 ∷ 36 ∷ 38 ∷ 40 ∷ 50 ∷ []
 unfolding computing s1-font order
 S1-order = refl
+
+-- The second row of a subtable with one word: it starts behind the two bytes of the first.
+pub second-row : metricDelta
+    (0 ∷ 0 ∷ 0 ∷ 0
+    ∷ 0 ∷ 1 ∷ 0 ∷ 0 ∷ 0 ∷ 0 ∷ 0 ∷ 0x10 ∷ 0 ∷ 0 ∷ 0 ∷ 0 ∷ 0 ∷ 0 ∷ 0 ∷ 0
+    ∷ 0 ∷ 1 ∷ 0 ∷ 0 ∷ 0 ∷ 0x0c ∷ 0 ∷ 1 ∷ 0 ∷ 0 ∷ 0 ∷ 0x10
+    ∷ 0 ∷ 0 ∷ 0 ∷ 1
+    ∷ 0 ∷ 2 ∷ 0 ∷ 1 ∷ 0 ∷ 1 ∷ 0 ∷ 0 ∷ 0 ∷ 1 ∷ 0 ∷ 2
+    ∷ []) 4 advance 1 [] ≡ value (pos 131072)
+unfolding computing
+second-row = refl
 
 -- Document 01's second misreading. The second triple is cut: it is not read where the coordinate is outside the first, and refused where the scalar became 0 at its start.
 pub cut-triple : (run (0 ∷ 0 ∷ 0x40 ∷ 0 ∷ 0x40 ∷ 0 ∷ []) (regionScalar (negsuc 0 ∷ []) 2 0) ≡ value (pos 0)) × (run (0 ∷ 0 ∷ 0x40 ∷ 0 ∷ 0x40 ∷ 0 ∷ []) (regionScalar (pos 0 ∷ []) 2 0) ≡ refused 2)

@@ -9,7 +9,8 @@ use lib.IntN.{ℤ}
 use denote.Ref.{RefT, now}
 use Rattle.readers.specs.Outcome.{Outcome, value, refused, number, valueOr, onward, unless}
 use Rattle.readers.specs.Reading.{Reading, answer, refuse, tested, bytesAt, unsignedAt, bigEndian, run}
-use Rattle.store.specs.Mvar.{Header, Opened, headerAt, opened, noHeader, noMvar}
+use Rattle.readers.proofs.Reading.{run-bind}
+use Rattle.store.specs.Mvar.{Header, Opened, headerAt, tagDelta, mvarDelta, opened, noHeader, noMvar, openedDelta}
 use Rattle.store.specs.MvarAnswers.{numbersOf, liesAt, Opens}
 use Rattle.store.specs.declared.mvar.Header.{Header as Numbers}
 use Rattle.store.specs.declared.mvar.Mvar.{Mvar}
@@ -85,3 +86,9 @@ module _ (font : RefT (List ℕ)) (start : ℕ) (coords : RefT (List ℤ)) (part
     place,
     place′,
   )
+
+-- Asked of an opened MVAR, a tag has the delta that the plain function answers. (Of a refused one it has 4, whatever refused it.)
+pub opened-answers : (font : List ℕ) (start : ℕ) (coords : List ℤ) (tag : ℕ) (h : Header) → run (drop start font) headerAt ≡ value h
+    → openedDelta (valueOr noMvar (opened font start coords)) tag ≡ mvarDelta font start tag coords
+unfolding opened openedDelta mvarDelta
+opened-answers font start coords tag h e = rw (run-bind (drop start font) headerAt (λ header. tagDelta header coords tag), e)

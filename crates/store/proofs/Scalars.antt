@@ -10,14 +10,15 @@ use lib.Signed.{mag, ltZ}
 use mir.Syntax.{w16}
 use mir.Val.{toZ}
 use mir.ValLaws.{toZ-fits}
+use Rattle.numbers.specs.Numbers.{scaled}
 use Rattle.numbers.proofs.Gaps.{gap, one-way, around, lt-gap, nlt-gap, gap-minus}
 use Rattle.numbers.proofs.Laws.{scalar-product}
 use Rattle.readers.specs.Outcome.{value}
-use Rattle.readers.specs.Reading.{Reading, answer, bigEndian, run}
+use Rattle.readers.specs.Reading.{Reading, answer, unsignedAt, signedAt, bigEndian, run}
 use Rattle.readers.specs.Walk.{turns, walk}
 use Rattle.readers.proofs.Bytes as Bytes
 use Rattle.readers.proofs.Passed.{answer-is}
-use Rattle.store.specs.Region.{Triple, coordinate, same, skipped, scaled, Tent, next, outside, tent, under, axisTurn, regionScalar}
+use Rattle.store.specs.Region.{Triple, tripleAt, coordinate, same, skipped, Tent, next, outside, tent, tentAt, under, axisTurn, regionScalar}
 use Rattle.store.proofs.Triples.{tripleIn, triple-was, neither, in-order, gap-small}
 
 abbrev InRange : ℤ → Type 0
@@ -90,7 +91,7 @@ module _ (font : List ℕ) (octets : (j : ℕ) → getD font j 0 < 256) where
   under-in-range outside onward ends h r e = (0, sym (answer-is font (pos 0) r e), omega arith)
 
   axes-in-range : (coords : List ℤ) (p k axis : ℕ) (s : ℤ) → InRange s → (r : ℤ) → run font (turns (axisTurn coords p) answer k axis s) ≡ value r → InRange r
-  unfolding turns axisTurn
+  unfolding turns axisTurn tentAt tripleAt signedAt unsignedAt
   axes-in-range coords p zero axis s i r e = rw (answer-is font s r e) at i
   axes-in-range coords p (suc k) axis s i r e =
       let q = p + 6 * axis in

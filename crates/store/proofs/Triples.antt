@@ -16,8 +16,8 @@ use Rattle.readers.specs.Reading.{Reading, _>>=_, unsignedAt, signedAt, bigEndi
 use Rattle.readers.proofs.Bytes.{present, missing}
 use Rattle.readers.proofs.Passed.{bytes-there, cut-later}
 use Rattle.readers.proofs.Reading.{took-by, stop-by}
-use Rattle.store.specs.Region.{Triple, tripleAt, coordinate, skipped, Tent, under, axisTurn}
-use Rattle.store.specs.RegionAnswers.{tentAt, axisOutcome}
+use Rattle.store.specs.Region.{Triple, tripleAt, coordinate, skipped, Tent, tentAt, under, axisTurn}
+use Rattle.store.specs.RegionAnswers.{axisOutcome}
 use Rattle.store.specs.declared.region.AxisAnswer.{AxisAnswer}
 
 -- ---- the bytes
@@ -48,17 +48,15 @@ module _ {A : Type 0} (font : List ℕ) (p : ℕ) (k : Triple → Reading A) whe
 -- ---- an axis of a region, by what `axis_at` answers
 
 module _ (coords : List ℤ) (p axis : ℕ) (scalar : ℤ) (onward : ℤ → Reading ℤ) where
-  axis-parts : axisTurn coords p axis scalar onward ≡ (tentAt (p + 6 * axis) (coordinate coords axis) scalar >>= λ t. under t onward)
-  unfolding axisTurn tentAt tripleAt signedAt unsignedAt
-  axis-parts = refl
-
   -- c is the coordinate that the code found; r is what `axis_at` answered, and v the case that it was.
   module _ (font : List ℕ) {c : ℤ} {r v : AxisAnswer} (found : c ≡ coordinate coords axis) (told : axisOutcome r ≡ run font (tentAt (p + 6 * axis) c scalar)) (was : r ≡ v) where
     pub axis-took : (w : Outcome ℤ) (t : Tent) → axisOutcome v ≡ value t → w ≡ run font (under t onward) → w ≡ run font (axisTurn coords p axis scalar onward)
-    axis-took w t e g = rw (axis-parts, ← found) (took-by axisOutcome font _ (λ t. under t onward) w told was e g)
+    unfolding axisTurn
+    axis-took w t e g = rw (← found) (took-by axisOutcome font _ (λ t. under t onward) w told was e g)
 
     pub axis-stop : {n : ℕ} → axisOutcome v ≡ refused n → refused n ≡ run font (axisTurn coords p axis scalar onward)
-    axis-stop e = rw (axis-parts, ← found) (stop-by axisOutcome font _ (λ t. under t onward) told was e)
+    unfolding axisTurn
+    axis-stop e = rw (← found) (stop-by axisOutcome font _ (λ t. under t onward) told was e)
 
 -- ---- the order
 

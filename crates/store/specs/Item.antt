@@ -1,7 +1,7 @@
 -- ItemVariationStore: its region list, its subtables, and a delta (OpenType, common table formats, "Item variation store"; document 01, "The item
 -- variation store"), in document 01's order of reads.
 use Prim.Native.Nat.{ℕ, _+_, _*_}
-use mathlib.Core.Bool.{Bool, cond, not}
+use mathlib.Core.Bool.{cond, not}
 use mathlib.Core.List.{List}
 use lib.Dec.{leb, ltb, eqb}
 use lib.IntN.{ℤ, pos, _+ℤ_, _*ℤ_}
@@ -32,9 +32,9 @@ regionStart regions region = regions .start + 6 * (region * regions .axisCount)
 
 -- ItemVariationData, and one row of its delta sets: where regionIndexes and the row start, regionIndexCount and wordDeltaCount.
 pub record Row : Type 0 where
-  pub indexes : ℕ
+  pub regionIndexes : ℕ
   pub regionIndexCount : ℕ
-  pub wordCount : ℕ
+  pub wordDeltaCount : ℕ
   pub start : ℕ
 
 -- A row is regionIndexCount + wordDeltaCount bytes; the rows follow the indexes. The item count is not looked at (D).
@@ -43,13 +43,13 @@ rowAt store outer inner = do
   itemVariationDataOffset ← unsignedAt 4 (store + 8 + 4 * outer)
   let subtable = store + itemVariationDataOffset
   regionIndexCount ← unsignedAt 2 (subtable + 4)
-  wordCount ← unsignedAt 2 (subtable + 2)
-  check (leb wordCount regionIndexCount) 5
+  wordDeltaCount ← unsignedAt 2 (subtable + 2)
+  check (leb wordDeltaCount regionIndexCount) 5
   answer (record {
-    indexes = subtable + 6;
+    regionIndexes = subtable + 6;
     regionIndexCount = regionIndexCount;
-    wordCount = wordCount;
-    start = subtable + 6 + 2 * regionIndexCount + inner * (regionIndexCount + wordCount);
+    wordDeltaCount = wordDeltaCount;
+    start = subtable + 6 + 2 * regionIndexCount + inner * (regionIndexCount + wordDeltaCount);
   })
 
 -- What the store has for a delta-set index: its regions, and the row.
@@ -73,22 +73,22 @@ regionIndexAt regionCount p = do
   check (ltb region regionCount) 3
   answer region
 
--- Entry k of a row that starts at p: how wide it is, and where. The first wordCount entries are words, the rest bytes.
+-- Entry k of a row that starts at p: how wide it is, and where. The first wordDeltaCount entries are words, the rest bytes.
 abbrev pub entryWidth : ℕ → ℕ → Width
-entryWidth wordCount k = cond (ltb k wordCount) w16 w8
+entryWidth wordDeltaCount k = cond (ltb k wordDeltaCount) w16 w8
 
 abbrev pub entryStart : ℕ → ℕ → ℕ → ℕ
-entryStart wordCount p k = p + cond (ltb k wordCount) (2 * k) (wordCount + k)
+entryStart wordDeltaCount p k = p + cond (ltb k wordDeltaCount) (2 * k) (wordDeltaCount + k)
 
 unfoldable pub deltaAt : ℕ → ℕ → ℕ → Reading ℤ
-deltaAt wordCount p k = signedAt (entryWidth wordCount k) (entryStart wordCount p k)
+deltaAt wordDeltaCount p k = signedAt (entryWidth wordDeltaCount k) (entryStart wordDeltaCount p k)
 
 -- One region of a row: its index, its scalar as it is handed in, its entry; the sum modulo 2^32 (D: OpenType's does not wrap).
 unfoldable pub rowTurn : (ℕ → Reading ℤ) → ℕ → Row → Turn ℤ (Reading ℤ)
 rowTurn scalarOf regionCount row k sum onward = do
-  region ← regionIndexAt regionCount (row .indexes + 2 * k)
+  region ← regionIndexAt regionCount (row .regionIndexes + 2 * k)
   scalar ← scalarOf region
-  delta ← deltaAt (row .wordCount) (row .start) k
+  delta ← deltaAt (row .wordDeltaCount) (row .start) k
   onward (wrap32 (sum +ℤ scalar *ℤ delta))
 
 -- The sum of a row's entries, each times the scalar of its region.

@@ -19,9 +19,9 @@ regionsOutcome store (L.Refused n) = refusal n
 
 abbrev pub rowOf : ℕ → ItemData → ℕ → Row
 rowOf store d inner = record {
-  indexes = store + d .offset + 6;
+  regionIndexes = store + d .offset + 6;
   regionIndexCount = d .«region_index_count»;
-  wordCount = d .«word_count»;
+  wordDeltaCount = d .«word_count»;
   start = store + d .offset + 6 + 2 * d .«region_index_count» + inner * (d .«region_index_count» + d .«word_count»);
 }
 

@@ -1,7 +1,7 @@
 -- HVAR and VVAR: the delta of a glyph's advance or bearing (OpenType, HVAR and VVAR, and DeltaSetIndexMap in the common table formats; document 01,
 -- "HVAR, VVAR, MVAR").
 use Prim.Native.Nat.{ℕ, _+_, _-_, _*_, _/_, _%_, _^_, min}
-use mathlib.Core.Bool.{Bool, true, false, not}
+use mathlib.Core.Bool.{cond, not}
 use mathlib.Core.List.{List}
 use lib.Dec.{ltb, eqb}
 use lib.IntN.{ℤ, pos}
@@ -30,15 +30,15 @@ pub record DeltaSet : Type 0 where
 abbrev pub deltaSetOf : ℕ → ℕ → DeltaSet
 deltaSetOf innerBits entry = record { outer = entry / 2 ^ innerBits % 2 ^ 16; inner = entry % 2 ^ innerBits }
 
--- DeltaSetIndexMap at p. Inner bits: the low 4 bits of the format plus 1; entry bytes: bits 4 and 5 plus 1. A glyph at or past the count uses
+-- DeltaSetIndexMap at p; its first two bytes are OpenType 1.9's format and entryFormat. Inner bits: the low 4 bits plus 1; entry bytes: bits 4 and 5 plus 1. A glyph at or past the count uses
 -- the last entry.
 unfoldable pub mapEntry : ℕ → ℕ → Reading DeltaSet
 mapEntry p glyph = do
-  entryFormat ← unsignedAt 2 p
+  format ← unsignedAt 2 p
   mapCount ← unsignedAt 2 (p + 2)
   check (not (eqb mapCount 0)) 5
-  let entrySize = entryFormat / 16 % 4 + 1
-  let innerBits = entryFormat % 16 + 1
+  let entrySize = format / 16 % 4 + 1
+  let innerBits = format % 16 + 1
   entry ← unsignedAt entrySize (p + 4 + entrySize * min glyph (mapCount - 1))
   answer (deltaSetOf innerBits entry)
 
@@ -56,15 +56,11 @@ storeOf base = do
   check (ltb (itemVariationStoreOffset + base) (2 ^ 32)) 5
   answer (itemVariationStoreOffset + base)
 
-abbrev pub mapping : Bool → Measure → ℕ → ℕ → Reading DeltaSet
-mapping true measure p glyph = unmapped measure glyph
-mapping false measure p glyph = mapEntry p glyph
-
 -- The glyph's delta-set index: through the map, unless its offset is 0.
 unfoldable pub deltaSetAt : ℕ → Measure → ℕ → Reading DeltaSet
 deltaSetAt base measure glyph = do
   mapOffset ← unsignedAt 4 (base + mapField measure)
-  mapping (eqb mapOffset 0) measure (base + mapOffset) glyph
+  cond (eqb mapOffset 0) (unmapped measure glyph) (mapEntry (base + mapOffset) glyph)
 
 -- The delta of a glyph's measure, in 16.16.
 unfoldable pub metricDelta : List ℕ → ℕ → Measure → ℕ → List ℤ → Outcome ℤ

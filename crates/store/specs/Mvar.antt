@@ -1,7 +1,7 @@
 -- MVAR: opened, searched, and the delta of a tag (OpenType, MVAR; document 01, "HVAR, VVAR, MVAR"). All positions count from the table's start: it is
 -- read as the part of the font from there.
 use Prim.Native.Nat.{ℕ, zero, suc, _+_, _*_, _/_}
-use mathlib.Core.Bool.{Bool, cond, not, _||_}
+use mathlib.Core.Bool.{cond, not, _||_}
 use mathlib.Core.List.{List, []}
 use lib.ListN.{drop}
 use lib.Dec.{ltb, eqb}

@@ -1,5 +1,5 @@
--- VariationRegion: how far a region applies at some coordinates (OpenType, common table formats, "Variation regions" and "Algorithm for
--- interpolation of instance values"; document 01, "The item variation store").
+-- VariationRegion: how far a region applies at some coordinates (OpenType, common table formats, "Variation regions", and font variations overview, "Algorithm
+-- for interpolation of instance values"; document 01, "The item variation store").
 use Prim.Native.Nat.{ℕ, _+_, _*_}
 use mathlib.Core.Bool.{Bool, cond, not, _&&_, _||_}
 use mathlib.Core.List.{List}
@@ -7,7 +7,7 @@ use lib.ListN.{getD}
 use lib.IntN.{ℤ, pos, _-ℤ_}
 use lib.Signed.{ltZ}
 use mir.Syntax.{w16}
-use Rattle.numbers.specs.Numbers.{fromF2dot14, times, over}
+use Rattle.numbers.specs.Numbers.{scaled}
 use Rattle.readers.specs.Reading.{Reading, answer, _>>=_, signedAt}
 use Rattle.readers.specs.Walk.{Turn, walk}
 
@@ -36,10 +36,6 @@ same a b = not (ltZ a b || ltZ b a)
 unfoldable pub skipped : Triple → Bool
 skipped t = ltZ (t .peak) (t .start) || ltZ (t .end) (t .peak) || same (t .peak) (pos 0) || (ltZ (t .start) (pos 0) && ltZ (pos 0) (t .end))
 
--- A 16.16 scalar multiplied by a part of a way, then divided by the whole way, both in 2.14.
-abbrev pub scaled : ℤ → ℤ → ℤ → ℤ
-scaled scalar part whole = over (times scalar (fromF2dot14 part)) (fromF2dot14 whole)
-
 -- What a triple makes of the scalar: the region goes on with another; or it is left, with the scalar 0.
 pub data Tent : Type 0 where
   next : ℤ → Tent
@@ -58,11 +54,17 @@ abbrev pub under : Tent → (ℤ → Reading ℤ) → Reading ℤ
 under (next scalar) onward = onward scalar
 under outside onward = answer (pos 0)
 
--- The axis of a region whose triples start at p.
+-- The triple at p, and what it makes of the scalar.
+unfoldable pub tentAt : ℕ → ℤ → ℤ → Reading Tent
+tentAt p c scalar = do
+  t ← tripleAt p
+  answer (tent t c scalar)
+
+-- One axis of a region whose triples start at p.
 unfoldable pub axisTurn : List ℤ → ℕ → Turn ℤ (Reading ℤ)
 axisTurn coords p axis scalar onward = do
-  t ← tripleAt (p + 6 * axis)
-  under (tent t (coordinate coords axis) scalar) onward
+  t ← tentAt (p + 6 * axis) (coordinate coords axis) scalar
+  under t onward
 
 -- The scalar of a region, from 1 through all of its axes.
 unfoldable pub regionScalar : List ℤ → ℕ → ℕ → Reading ℤ

@@ -1,12 +1,9 @@
 -- What the structs and answers of `region` stand for.
-use Prim.Native.Nat.{ℕ}
-use lib.IntN.{ℤ}
 use Rattle.numbers.specs.declared.F2Dot14.{F2Dot14}
 use Rattle.readers.specs.Outcome.{Outcome, value}
-use Rattle.readers.specs.Reading.{Reading, answer, _>>=_}
 use Rattle.readers.specs.Answers.{refusal}
 use Rattle.store.specs.Region as Region
-use Rattle.store.specs.Region.{Triple, tripleAt, tent, next, outside}
+use Rattle.store.specs.Region.{Triple, next, outside}
 use Rattle.store.specs.declared.region.Tent.{Tent}
 use Rattle.store.specs.declared.region.Tent.the-variants as T
 use Rattle.store.specs.declared.region.AxisAnswer.{AxisAnswer}
@@ -18,12 +15,6 @@ triple start peak end = record { start = start .0; peak = peak .0; end = end .0 
 abbrev pub tentOf : Tent → Region.Tent
 tentOf (T.Next scalar) = next (scalar .0)
 tentOf T.Outside = outside
-
--- A triple that is read, and what it makes of the scalar.
-unfoldable pub tentAt : ℕ → ℤ → ℤ → Reading Region.Tent
-tentAt p c scalar = do
-  t ← tripleAt p
-  answer (tent t c scalar)
 
 abbrev pub axisOutcome : AxisAnswer → Outcome Region.Tent
 axisOutcome (A.Next scalar) = value (next (scalar .0))

@@ -164,7 +164,7 @@ fn row_sum(
     FixedAnswer::Value(sum)
 }
 
-// Returns a delta from an item variation store. swash's outer index has 16 bits; a map of a later format has more.
+// Returns a delta from an item variation store. swash's outer index has 16 bits; an entry of a map can hold more, and the map cuts them.
 pub fn item_delta(font: &[u8], store: u32, outer: u32, inner: u16, coords: &[i16]) -> FixedAnswer
     ensures { λ r. ⌜ outcomeFixed r ≡ itemDelta (now (font .entry)) store outer inner (now (coords .entry)) ⌝ }
 {

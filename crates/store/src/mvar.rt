@@ -10,9 +10,8 @@ use readers::u32_at;
 ghost use mathlib.Core.Path.{_≡_};
 ghost use mathlib.Core.Bool.{cond};
 ghost use mathlib.Core.List.{[]};
-ghost use Prim.Native.Nat.{_+_, _^_, _<_};
 ghost use lib.Dec.{eqb};
-ghost use lib.ListN.{length, drop};
+ghost use lib.ListN.{drop};
 ghost use Rattle.readers.specs.Outcome.{valueOr, number as numberIn};
 ghost use Rattle.readers.specs.Reading.{run};
 ghost use Rattle.readers.specs.Answers.{outcomeFixed};
@@ -94,7 +93,7 @@ fn find(data: &[u8], rec_size: u16, rec_count: u16, tag: u32) -> Found
 }
 
 // The delta of a tag, with all that an opened MVAR holds.
-fn delta_at<'a>(
+fn tag_delta<'a>(
     tag: u32,
     data: &'a [u8],
     coords: &'a [i16],
@@ -119,7 +118,7 @@ fn delta_at<'a>(
     item_delta(data, store as u32, outer as u32, inner, coords)
 }
 
-fn float_at<'a>(
+fn tag_float<'a>(
     tag: u32,
     data: &'a [u8],
     coords: &'a [i16],
@@ -129,7 +128,7 @@ fn float_at<'a>(
 ) -> f32
     ensures { λ r. ⌜ r ≡ floatOf (run (now («data» .entry)) (tagDelta (headerOf «rec_size» «rec_count» store) (now (coords .entry)) tag)) ⌝ }
 {
-    float_of(delta_at(tag, data, coords, rec_size, rec_count, store))
+    float_of(tag_delta(tag, data, coords, rec_size, rec_count, store))
 }
 
 // The part of the font from a position on; past the end it is empty.
@@ -164,7 +163,7 @@ pub fn mvar_delta<'a>(font: &'a [u8], mvar: u32, tag: u32, coords: &'a [i16]) ->
     let rec_size = h.rec_size;
     let rec_count = h.rec_count;
     let store = h.store;
-    delta_at(tag, part, coords, rec_size, rec_count, store)
+    tag_delta(tag, part, coords, rec_size, rec_count, store)
 }
 
 // The part of an MVAR that opens, with the number of its refusal beside it, 0 for none; refused, the part is empty.
@@ -241,7 +240,7 @@ impl<'a> Mvar<'a> {
     pub fn read_delta(self, tag: u32) -> FixedAnswer
         ensures { λ r. ⌜ outcomeFixed r ≡ openedDelta (openedOf (self .entry)) tag ⌝ }
     {
-        delta_at(
+        tag_delta(
             tag,
             self.data,
             self.coords,
@@ -255,7 +254,7 @@ impl<'a> Mvar<'a> {
     pub fn delta(self, tag: u32) -> f32
         ensures { λ r. ⌜ r ≡ floatOf (openedDelta (openedOf (self .entry)) tag) ⌝ }
     {
-        float_at(
+        tag_float(
             tag,
             self.data,
             self.coords,

@@ -10,8 +10,8 @@ ghost use mir.Syntax.{w16};
 ghost use mir.Val.{toZ};
 ghost use Rattle.readers.specs.Reading.{bigEndian, run};
 ghost use Rattle.readers.specs.Answers.{outcomeFixed};
-ghost use Rattle.store.specs.Region.{coordinate, same, skipped, tent, regionScalar};
-ghost use Rattle.store.specs.RegionAnswers.{triple, tentOf, tentAt, axisOutcome};
+ghost use Rattle.store.specs.Region.{coordinate, same, skipped, tent, tentAt, regionScalar};
+ghost use Rattle.store.specs.RegionAnswers.{triple, tentOf, axisOutcome};
 
 // What a triple makes of a scalar: the next one; or the coordinate is outside.
 enum Tent {

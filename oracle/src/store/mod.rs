@@ -175,11 +175,11 @@ impl Case {
         let rust = Rust::of(|| self.rust().unwrap_or(Rust::None));
         let said = self.by_rules();
         let rule = self.text(&said);
-        // `None` is one of 1 to 4, and of a float it is an MVAR that doesn't open: 1 or 2. A stop is 5.
+        // `None` is one of 1 to 4; of a float, and of opening, it is an MVAR that doesn't open: 1 or 2. A stop is 5.
         // An outer index that the Rust can't be given is 3, or what comes before.
         let agree = match &rust {
             Rust::Answer(answer) => *answer == rule,
-            Rust::None if self.is_float() => matches!(said, Err(1..=2)),
+            Rust::None if self.is_float() || self.name == NEW => matches!(said, Err(1..=2)),
             Rust::None => matches!(said, Err(1..=4)),
             Rust::Stops => said == Err(5),
             Rust::Silent => matches!(said, Err(1..=3)),

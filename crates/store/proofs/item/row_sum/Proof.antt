@@ -28,7 +28,7 @@ sumFrom coords item k sum =
 abbrev itemOver : ℕ → ℕ → ℕ → ℕ → ℕ → ℕ → ℕ → Item
 itemOver axes count indexCount words start indexes row = record {
   regions = record { start = start; axisCount = axes; regionCount = count };
-  row = record { indexes = indexes; regionIndexCount = indexCount; wordCount = words; start = row };
+  row = record { regionIndexes = indexes; regionIndexCount = indexCount; wordDeltaCount = words; start = row };
 }
 
 abbrev Inv-loop : tie.InvT-loop

@@ -25,15 +25,15 @@ returns c =
     let told = rw (c .before .before .before .before .part-from .ensures .0) at (c .before .before .before .header-at .ensures) in
     stop-by headerOutcome _ headerAt _ told (c .before .n .given .1) refl
 
-delta-at-requires : tie.Need-delta-at-requires
-delta-at-requires c κs = search needs
+tag-delta-requires : tie.Need-tag-delta-requires
+tag-delta-requires c κs = search needs
 
 returns-2 : tie.Need-returns-2
 unfolding mvarDelta
 returns-2 c =
     let part = c .before .before .before .before .before .part-from .ensures .0 in
     let told = rw part at (c .before .before .before .before .header-at .ensures) in
-    took-by headerOutcome _ headerAt _ _ told (c .before .before .h .given .1) refl (rw part at (c .delta-at .ensures))
+    took-by headerOutcome _ headerAt _ _ told (c .before .before .h .given .1) refl (rw part at (c .tag-delta .ensures))
 
 pub mvar-delta-spec : {M : Type 1} → statement M
 mvar-delta-spec =
@@ -44,5 +44,5 @@ mvar-delta-spec =
     enum-known-h
     enum-known-n
     returns
-    delta-at-requires
+    tag-delta-requires
     returns-2)

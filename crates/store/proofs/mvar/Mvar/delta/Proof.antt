@@ -1,4 +1,4 @@
--- `Mvar::delta` takes the struct apart and calls `float_at` on the tag, the slices and the numbers. Assumes nothing.
+-- `Mvar::delta` takes the struct apart and calls `tag_float` on the tag, the slices and the numbers. Assumes nothing.
 use mathlib.Core.Path.{_≡_}
 use lib.Ieee.{binary32}
 use mir.Syntax.{tyFloat}
@@ -9,9 +9,9 @@ use denote.Triple.Spec.{tripleOf}
 use denote.Triple.Table.{entered, cited}
 use Rattle.store.specs.Metric.{floatOf}
 use Rattle.store.proofs.Apart.{apart-meets}
-use Rattle.store.proofs.mvar.float_at as work
-use Rattle.store.proofs.mvar.float_at.Symbol as work-def
-use Rattle.store.proofs.mvar.float_at.Met as work-thm
+use Rattle.store.proofs.mvar.tag_float as work
+use Rattle.store.proofs.mvar.tag_float.Symbol as work-def
+use Rattle.store.proofs.mvar.tag_float.Met as work-thm
 use Rattle.store.proofs.mvar.Mvar.delta.Key.{name as #delta}
 use Rattle.store.proofs.mvar.Mvar.delta as delta
 use Rattle.store.proofs.mvar.Mvar.delta.Statement as stated
@@ -24,4 +24,4 @@ delta-spec 𝓤 H 𝓜 𝓖 𝓡 =
     (tables 𝓤 H 𝓜 𝓡 code.env .C) (tables 𝓤 H 𝓜 𝓡 code.env .Λ) #delta code.function (code.unfolded 𝓤 H 𝓜 𝓡)
     (apart-meets f32 (λ r o. r ≡ floatOf o) (tyFloat binary32) work-def.name (λ r u is. float-lawful 𝓤 H (𝓖 .A) (givenOf 𝓤 H 𝓜 𝓖) binary32 .typed r _ is .0)
     𝓤 H (𝓖 .A) (givenOf 𝓤 H 𝓜 𝓖) (tablesOf 𝓤 H 𝓜 (tables 𝓤 H 𝓜 𝓡 code.env))
-    (cited 𝓤 H (tripleOf 𝓤 H (𝓖 .A) work.signature (work.spec 𝓤 H (𝓖 .A) (𝓜 .mem) (𝓡 .run))) 𝓜 𝓡 code.env work-def.name work-def.routine code.calls-store·mvar·float-at (work-thm.met 𝓤 H 𝓜 𝓖 𝓡)))
+    (cited 𝓤 H (tripleOf 𝓤 H (𝓖 .A) work.signature (work.spec 𝓤 H (𝓖 .A) (𝓜 .mem) (𝓡 .run))) 𝓜 𝓡 code.env work-def.name work-def.routine code.calls-store·mvar·tag-float (work-thm.met 𝓤 H 𝓜 𝓖 𝓡)))

@@ -1,4 +1,4 @@
--- `Mvar::read_delta` takes the struct apart and calls `delta_at` on the tag, the slices and the numbers. Assumes nothing.
+-- `Mvar::read_delta` takes the struct apart and calls `tag_delta` on the tag, the slices and the numbers. Assumes nothing.
 use mathlib.Core.Path.{_≡_}
 use contract.Running.{givenOf, tables, tablesOf}
 use denote.Enum.Laws as EL
@@ -8,9 +8,9 @@ use Rattle.readers.specs.Answers.{outcomeFixed}
 use Rattle.readers.proofs.FixedAnswer as S
 use Rattle.readers.proofs.FixedAnswer.Laws as S′
 use Rattle.store.proofs.Apart.{apart-meets}
-use Rattle.store.proofs.mvar.delta_at as work
-use Rattle.store.proofs.mvar.delta_at.Symbol as work-def
-use Rattle.store.proofs.mvar.delta_at.Met as work-thm
+use Rattle.store.proofs.mvar.tag_delta as work
+use Rattle.store.proofs.mvar.tag_delta.Symbol as work-def
+use Rattle.store.proofs.mvar.tag_delta.Met as work-thm
 use Rattle.store.proofs.mvar.Mvar.read_delta.Key.{name as #read-delta}
 use Rattle.store.proofs.mvar.Mvar.read_delta as read-delta
 use Rattle.store.proofs.mvar.Mvar.read_delta.Statement as stated
@@ -23,4 +23,4 @@ read-delta-spec 𝓤 H 𝓜 𝓖 𝓡 =
     (tables 𝓤 H 𝓜 𝓡 code.env .C) (tables 𝓤 H 𝓜 𝓡 code.env .Λ) #read-delta code.function (code.unfolded 𝓤 H 𝓜 𝓡)
     (apart-meets S.the-row (λ r o. outcomeFixed r ≡ o) S′.mir work-def.name (λ r u is. EL.lawful S.the-type S′.the-laws 𝓤 H (𝓖 .A) (givenOf 𝓤 H 𝓜 𝓖) tt .typed r _ is .0)
     𝓤 H (𝓖 .A) (givenOf 𝓤 H 𝓜 𝓖) (tablesOf 𝓤 H 𝓜 (tables 𝓤 H 𝓜 𝓡 code.env))
-    (cited 𝓤 H (tripleOf 𝓤 H (𝓖 .A) work.signature (work.spec 𝓤 H (𝓖 .A) (𝓜 .mem) (𝓡 .run))) 𝓜 𝓡 code.env work-def.name work-def.routine code.calls-store·mvar·delta-at (work-thm.met 𝓤 H 𝓜 𝓖 𝓡)))
+    (cited 𝓤 H (tripleOf 𝓤 H (𝓖 .A) work.signature (work.spec 𝓤 H (𝓖 .A) (𝓜 .mem) (𝓡 .run))) 𝓜 𝓡 code.env work-def.name work-def.routine code.calls-store·mvar·tag-delta (work-thm.met 𝓤 H 𝓜 𝓖 𝓡)))

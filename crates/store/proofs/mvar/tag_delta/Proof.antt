@@ -1,4 +1,4 @@
--- `store::mvar::delta_at` meets its contract. Assumes nothing.
+-- `store::mvar::tag_delta` meets its contract. Assumes nothing.
 use Prim.Native.Nat.{_+_, _*_, _≤_}
 use mathlib.Core.Path.{refl}
 use native.Mathlib.Omega.{arith}
@@ -9,8 +9,8 @@ use Rattle.store.specs.MvarAnswers.{foundOutcome}
 use Rattle.store.proofs.Search.{found-small}
 use Rattle.store.proofs.Records.{inner-stops, outer-stops, both-took}
 use borrow.Author.Needs.{needs}
-use Rattle.store.proofs.mvar.delta_at.Statement.{statement}
-use Rattle.store.proofs.mvar.delta_at.Tie as tie
+use Rattle.store.proofs.mvar.tag_delta.Statement.{statement}
+use Rattle.store.proofs.mvar.tag_delta.Tie as tie
 
 -- The record's own positions don't wrap.
 near : (c : tie.After-known-told) → c .before .at .given .0 .0 ≤ 12 + 65535 * 65535
@@ -87,8 +87,8 @@ returns-4 c =
     took-by foundOutcome _ _ _ _ found case refl
     (both-took _ _ _ inner (c .before .before .before .before .before .before .x .given .1) _ outer (c .before .before .x2 .given .1) (c .item-delta .ensures))
 
-pub delta-at-spec : {M : Type 1} → statement M
-delta-at-spec =
+pub tag-delta-spec : {M : Type 1} → statement M
+tag-delta-spec =
     tie.close
     (tie.spec
     find-requires

@@ -87,8 +87,14 @@ module _ (font : RefT (List ℕ)) (start : ℕ) (coords : RefT (List ℤ)) (part
     place′,
   )
 
+-- Once its header is read, a tag has the delta that the header's numbers lead to.
+pub header-answers : (font : List ℕ) (start : ℕ) (coords : List ℤ) (tag : ℕ) (h : Header) → run (drop start font) headerAt ≡ value h
+    → run (drop start font) (tagDelta h coords tag) ≡ mvarDelta font start tag coords
+unfolding mvarDelta
+header-answers font start coords tag h e = rw (run-bind (drop start font) headerAt (λ header. tagDelta header coords tag), e)
+
 -- Asked of an opened MVAR, a tag has the delta that the plain function answers. (Of a refused one it has 4, whatever refused it.)
 pub opened-answers : (font : List ℕ) (start : ℕ) (coords : List ℤ) (tag : ℕ) (h : Header) → run (drop start font) headerAt ≡ value h
     → openedDelta (valueOr noMvar (opened font start coords)) tag ≡ mvarDelta font start tag coords
-unfolding opened openedDelta mvarDelta
-opened-answers font start coords tag h e = rw (run-bind (drop start font) headerAt (λ header. tagDelta header coords tag), e)
+unfolding opened openedDelta
+opened-answers font start coords tag h e = rw (e, header-answers font start coords tag h e)

@@ -166,6 +166,19 @@ pub fn mvar_delta<'a>(font: &'a [u8], mvar: u32, tag: u32, coords: &'a [i16]) ->
     tag_delta(tag, part, coords, rec_size, rec_count, store)
 }
 
+impl Header {
+    // The delta of a tag as a float, 0.0 on any refusal, by the MVAR at an offset of the font that has this header: for one who asks for many tags and holds no slice.
+    pub fn delta<'a>(self, font: &'a [u8], mvar: u32, tag: u32, coords: &'a [i16]) -> f32
+        ensures { λ r. ⌜ r ≡ floatOf (run (drop mvar (now (font .entry))) (tagDelta (numbersOf self) (now (coords .entry)) tag)) ⌝ }
+    {
+        let part = part_from(font, mvar);
+        let rec_size = self.rec_size;
+        let rec_count = self.rec_count;
+        let store = self.store;
+        tag_float(tag, part, coords, rec_size, rec_count, store)
+    }
+}
+
 // The part of an MVAR that opens, with the number of its refusal beside it, 0 for none; refused, the part is empty.
 fn opened_part<'a>(font: &'a [u8], mvar: u32, number: &mut u8) -> &'a [u8]
     ensures part { λ r. ⌜ now r ≡ cond (eqb (numberIn (run (drop mvar (now (font .entry))) headerAt)) 0) (drop mvar (now (font .entry))) [] ⌝ }

@@ -1,0 +1,90 @@
+-- No second answer: for each public function of `glyph`, two answers that its contract allows are the same. Assumes nothing.
+use mathlib.Core.Path.{_≡_, refl, ap, sym, _∙_}
+use Rattle.metrics.specs.Vertical as Vertically
+use Rattle.metrics.specs.Vertical.{vmtxGlyf, vmtxVorg, synthesized}
+use Rattle.metrics.specs.Glyph as Glyph
+use Rattle.metrics.specs.Structs.{verticalOf, glyphsOf}
+use Rattle.metrics.specs.declared.vertical.Vertical.{Vertical}
+use Rattle.metrics.specs.declared.vertical.Vertical.the-variants as W
+use Rattle.metrics.specs.declared.glyph.GlyphMetrics.{GlyphMetrics}
+use Rattle.metrics.proofs.glyph.materialize_glyph_metrics.Reads as materialize-glyph-metrics
+use Rattle.metrics.proofs.glyph.GlyphMetrics.has_vertical_metrics.Reads as has-vertical-metrics
+use Rattle.metrics.proofs.glyph.GlyphMetrics.has_variations.Reads as has-variations
+use Rattle.metrics.proofs.glyph.GlyphMetrics.scale.Reads as scale
+use Rattle.metrics.proofs.glyph.GlyphMetrics.linear_scale.Reads as linear-scale
+use Rattle.metrics.proofs.glyph.GlyphMetrics.advance_width.Reads as advance-width
+use Rattle.metrics.proofs.glyph.GlyphMetrics.lsb.Reads as lsb
+use Rattle.metrics.proofs.glyph.GlyphMetrics.advance_height.Reads as advance-height
+use Rattle.metrics.proofs.glyph.GlyphMetrics.tsb.Reads as tsb
+use Rattle.metrics.proofs.glyph.GlyphMetrics.vertical_origin.Reads as vertical-origin
+
+-- The enum and the struct that stand for some vertical and glyph metrics.
+abbrev upright : Vertically.Vertical → Vertical
+upright (vmtxGlyf locaFmt longCount vmtx vvar glyf loca) = W.VmtxGlyf locaFmt longCount vmtx vvar glyf loca
+upright (vmtxVorg longCount vmtx vvar vorg) = W.VmtxVorg longCount vmtx vvar vorg
+upright (synthesized mvar advance origin) = W.Synthesized mvar advance origin
+
+upright-back : (v : Vertical) → upright (verticalOf v) ≡ v
+upright-back (W.VmtxGlyf locaFmt longCount vmtx vvar glyf loca) = refl
+upright-back (W.VmtxVorg longCount vmtx vvar vorg) = refl
+upright-back (W.Synthesized mvar advance origin) = refl
+
+abbrev measuring : GlyphMetrics → Vertical → GlyphMetrics
+measuring m v = record {
+  «units_per_em» = m .«units_per_em»;
+  «glyph_count» = m .«glyph_count»;
+  hmtx = m .hmtx;
+  hvar = m .hvar;
+  «hmtx_count» = m .«hmtx_count»;
+  «has_vvar» = m .«has_vvar»;
+  vertical = v;
+  scale = m .scale;
+}
+
+abbrev glyphing : Glyph.GlyphMetrics → GlyphMetrics
+glyphing m = record {
+  «units_per_em» = m .unitsPerEm;
+  «glyph_count» = m .glyphCount;
+  hmtx = m .hmtx;
+  hvar = m .hvar;
+  «hmtx_count» = m .hmtxCount;
+  «has_vvar» = m .hasVvar;
+  vertical = upright (m .vertical);
+  scale = m .scale;
+}
+
+glyphs-back : (m : GlyphMetrics) → glyphing (glyphsOf m) ≡ m
+glyphs-back m = ap (measuring m) (upright-back (m .vertical))
+
+oneGlyphs : {m : Glyph.GlyphMetrics} {r r′ : GlyphMetrics} → glyphsOf r ≡ m → glyphsOf r′ ≡ m → r ≡ r′
+oneGlyphs {r = r} {r′ = r′} p q = sym (glyphs-back r) ∙ ap glyphing (p ∙ sym q) ∙ glyphs-back r′
+
+pub materialize-glyph-metrics-one : (κs : _) (a : _) (r r′ : _) (s s′ : _) → materialize-glyph-metrics.Post κs a r s → materialize-glyph-metrics.Post κs a r′ s′ → r ≡ r′
+materialize-glyph-metrics-one κs a r r′ s s′ p q = oneGlyphs p q
+
+pub has-vertical-metrics-one : (κs : _) (a : _) (r r′ : _) (s s′ : _) → has-vertical-metrics.Post κs a r s → has-vertical-metrics.Post κs a r′ s′ → r ≡ r′
+has-vertical-metrics-one κs a r r′ s s′ p q = p ∙ sym q
+
+pub has-variations-one : (κs : _) (a : _) (r r′ : _) (s s′ : _) → has-variations.Post κs a r s → has-variations.Post κs a r′ s′ → r ≡ r′
+has-variations-one κs a r r′ s s′ p q = p ∙ sym q
+
+pub scale-one : (κs : _) (a : _) (r r′ : _) (s s′ : _) → scale.Post κs a r s → scale.Post κs a r′ s′ → r ≡ r′
+scale-one κs a r r′ s s′ p q = oneGlyphs p q
+
+pub linear-scale-one : (κs : _) (a : _) (r r′ : _) (s s′ : _) → linear-scale.Post κs a r s → linear-scale.Post κs a r′ s′ → r ≡ r′
+linear-scale-one κs a r r′ s s′ p q = oneGlyphs p q
+
+pub advance-width-one : (κs : _) (a : _) (r r′ : _) (s s′ : _) → advance-width.Post κs a r s → advance-width.Post κs a r′ s′ → r ≡ r′
+advance-width-one κs a r r′ s s′ p q = p ∙ sym q
+
+pub lsb-one : (κs : _) (a : _) (r r′ : _) (s s′ : _) → lsb.Post κs a r s → lsb.Post κs a r′ s′ → r ≡ r′
+lsb-one κs a r r′ s s′ p q = p ∙ sym q
+
+pub advance-height-one : (κs : _) (a : _) (r r′ : _) (s s′ : _) → advance-height.Post κs a r s → advance-height.Post κs a r′ s′ → r ≡ r′
+advance-height-one κs a r r′ s s′ p q = p ∙ sym q
+
+pub tsb-one : (κs : _) (a : _) (r r′ : _) (s s′ : _) → tsb.Post κs a r s → tsb.Post κs a r′ s′ → r ≡ r′
+tsb-one κs a r r′ s s′ p q = p ∙ sym q
+
+pub vertical-origin-one : (κs : _) (a : _) (r r′ : _) (s s′ : _) → vertical-origin.Post κs a r s → vertical-origin.Post κs a r′ s′ → r ≡ r′
+vertical-origin-one κs a r r′ s s′ p q = p ∙ sym q

@@ -1,0 +1,43 @@
+-- No second answer: for each public function of `measures`, two answers that its contract allows are the same. Assumes nothing.
+use mathlib.Core.Path.{_≡_, ap, sym, _∙_}
+use Rattle.metrics.specs.Measures as Measures
+use Rattle.metrics.specs.Structs.{metricsOf}
+use Rattle.metrics.specs.declared.measures.Metrics.{Metrics}
+use Rattle.metrics.proofs.measures.materialize_metrics.Reads as materialize-metrics
+use Rattle.metrics.proofs.measures.Metrics.scale.Reads as scale
+use Rattle.metrics.proofs.measures.Metrics.linear_scale.Reads as linear-scale
+
+-- The struct that stands for some measures.
+measuring : Measures.Metrics → Metrics
+measuring m = record {
+  «units_per_em» = m .unitsPerEm;
+  «glyph_count» = m .glyphCount;
+  «is_monospace» = m .isMonospace;
+  «has_vertical_metrics» = m .hasVerticalMetrics;
+  ascent = m .ascent;
+  descent = m .descent;
+  leading = m .leading;
+  «vertical_ascent» = m .verticalAscent;
+  «vertical_descent» = m .verticalDescent;
+  «vertical_leading» = m .verticalLeading;
+  «cap_height» = m .capHeight;
+  «x_height» = m .xHeight;
+  «average_width» = m .averageWidth;
+  «max_width» = m .maxWidth;
+  «underline_offset» = m .underlineOffset;
+  «strikeout_offset» = m .strikeoutOffset;
+  «stroke_size» = m .strokeSize;
+}
+
+oneMetrics : {m : Measures.Metrics} {r r′ : Metrics} → metricsOf r ≡ m → metricsOf r′ ≡ m → r ≡ r′
+unfolding measuring
+oneMetrics p q = ap measuring (p ∙ sym q)
+
+pub materialize-metrics-one : (κs : _) (a : _) (r r′ : _) (s s′ : _) → materialize-metrics.Post κs a r s → materialize-metrics.Post κs a r′ s′ → r ≡ r′
+materialize-metrics-one κs a r r′ s s′ p q = oneMetrics p q
+
+pub scale-one : (κs : _) (a : _) (r r′ : _) (s s′ : _) → scale.Post κs a r s → scale.Post κs a r′ s′ → r ≡ r′
+scale-one κs a r r′ s s′ p q = oneMetrics p q
+
+pub linear-scale-one : (κs : _) (a : _) (r r′ : _) (s s′ : _) → linear-scale.Post κs a r s → linear-scale.Post κs a r′ s′ → r ≡ r′
+linear-scale-one κs a r r′ s s′ p q = oneMetrics p q

@@ -1,0 +1,55 @@
+-- What the structs and enums of `metrics` stand for.
+use mathlib.Core.Option.{Option, none, some}
+use lib.IntN.{ℤ}
+use Rattle.metrics.specs.Measures as Measures
+use Rattle.metrics.specs.Vertical as Vertically
+use Rattle.metrics.specs.Vertical.{vmtxGlyf, vmtxVorg, synthesized}
+use Rattle.metrics.specs.Glyph as Glyph
+use Rattle.metrics.specs.declared.measures.Metrics.{Metrics}
+use Rattle.metrics.specs.declared.vertical.Vertical.{Vertical}
+use Rattle.metrics.specs.declared.vertical.Vertical.the-variants as W
+use Rattle.metrics.specs.declared.glyph.GlyphMetrics.{GlyphMetrics}
+use Rattle.metrics.specs.declared.glyph.Ordinate.{Ordinate}
+use Rattle.metrics.specs.declared.glyph.Ordinate.the-variants as O
+
+abbrev pub metricsOf : Metrics → Measures.Metrics
+metricsOf m = record {
+  unitsPerEm = m .«units_per_em»;
+  glyphCount = m .«glyph_count»;
+  isMonospace = m .«is_monospace»;
+  hasVerticalMetrics = m .«has_vertical_metrics»;
+  ascent = m .ascent;
+  descent = m .descent;
+  leading = m .leading;
+  verticalAscent = m .«vertical_ascent»;
+  verticalDescent = m .«vertical_descent»;
+  verticalLeading = m .«vertical_leading»;
+  capHeight = m .«cap_height»;
+  xHeight = m .«x_height»;
+  averageWidth = m .«average_width»;
+  maxWidth = m .«max_width»;
+  underlineOffset = m .«underline_offset»;
+  strikeoutOffset = m .«strikeout_offset»;
+  strokeSize = m .«stroke_size»;
+}
+
+abbrev pub verticalOf : Vertical → Vertically.Vertical
+verticalOf (W.VmtxGlyf locaFmt longCount vmtx vvar glyf loca) = vmtxGlyf locaFmt longCount vmtx vvar glyf loca
+verticalOf (W.VmtxVorg longCount vmtx vvar vorg) = vmtxVorg longCount vmtx vvar vorg
+verticalOf (W.Synthesized mvar advance origin) = synthesized mvar advance origin
+
+abbrev pub glyphsOf : GlyphMetrics → Glyph.GlyphMetrics
+glyphsOf m = record {
+  unitsPerEm = m .«units_per_em»;
+  glyphCount = m .«glyph_count»;
+  hmtx = m .hmtx;
+  hvar = m .hvar;
+  hmtxCount = m .«hmtx_count»;
+  hasVvar = m .«has_vvar»;
+  vertical = verticalOf (m .vertical);
+  scale = m .scale;
+}
+
+abbrev pub ordinate : Ordinate → Option ℤ
+ordinate (O.Known y) = some y
+ordinate O.Missing = none

@@ -1,0 +1,222 @@
+// A glyph's advances, bearings and vertical origin.
+use crate::measures::scale_for;
+use crate::vertical::Vertical;
+use store::metric::advance_delta;
+use store::metric::sb_delta;
+ghost use mathlib.Core.Path.{_≡_};
+ghost use lib.IntN.{pos};
+ghost use mir.Syntax.{w16};
+ghost use mir.Val.{toZ};
+ghost use Rattle.store.specs.Metric.{advance, bearing};
+ghost use Rattle.metrics.specs.Vertical.{hasTables};
+ghost use Rattle.metrics.specs.Glyph.{hasVariations, withScale, scaledGlyphs, materializedGlyphs, varied, advanceWidth, leftBearing, advanceHeight, topBearing, glyfOrigin, vorgOrigin, verticalOrigin};
+ghost use Rattle.metrics.specs.Structs.{glyphsOf, ordinate};
+
+// A y coordinate of a glyph, if the font has one.
+pub enum Ordinate {
+    Known(i16),
+    Missing,
+}
+
+// What is the same for all glyphs of a font. Font, coordinates and a glyph's unvaried numbers are lent and given to each call; the offsets and counts of hmtx and
+// of vertical tables are kept for whoever reads those numbers.
+pub struct GlyphMetrics {
+    pub units_per_em: u16,
+    pub glyph_count: u16,
+    pub hmtx: u32,
+    pub hvar: u32,
+    pub hmtx_count: u16,
+    pub has_vvar: bool,
+    pub vertical: Vertical,
+    pub scale: f32,
+}
+
+impl GlyphMetrics {
+    // Whether the font itself has vertical metrics.
+    pub fn has_vertical_metrics(self) -> bool
+        ensures { λ r. ⌜ r ≡ hasTables (glyphsOf self .vertical) ⌝ }
+    {
+        let v = self.vertical;
+        v.has_vertical_metrics()
+    }
+
+    // Whether variations are supported.
+    pub fn has_variations(self) -> bool
+        ensures { λ r. ⌜ r ≡ hasVariations (glyphsOf self) ⌝ }
+    {
+        if self.hvar != 0 {
+            return true;
+        }
+        self.has_vvar
+    }
+
+    // The same, scaled for pixels per em.
+    pub fn scale(self, ppem: f32) -> GlyphMetrics
+        ensures { λ r. ⌜ glyphsOf r ≡ scaledGlyphs ppem (glyphsOf self) ⌝ }
+    {
+        let upem = self.units_per_em;
+        self.linear_scale(scale_for(ppem, upem))
+    }
+
+    // The same with this factor, whatever the scale was.
+    pub fn linear_scale(mut self, scale: f32) -> GlyphMetrics
+        ensures { λ r. ⌜ glyphsOf r ≡ withScale scale (glyphsOf self) ⌝ }
+    {
+        self.scale = scale;
+        self
+    }
+
+    // The width of a glyph's advance, from the unvaried one.
+    pub fn advance_width(self, font: &[u8], glyph_id: u16, coords: &[i16], advance: u16) -> f32
+        ensures { λ r. ⌜ r ≡ advanceWidth (now (font .entry)) «glyph_id» (now (coords .entry)) advance (glyphsOf self) ⌝ }
+    {
+        let hvar = self.hvar;
+        let scale = self.scale;
+        varied_advance(font, hvar, glyph_id, coords, advance, scale)
+    }
+
+    // The left bearing of a glyph, from the unvaried one.
+    pub fn lsb(self, font: &[u8], glyph_id: u16, coords: &[i16], bearing: i16) -> f32
+        ensures { λ r. ⌜ r ≡ leftBearing (now (font .entry)) «glyph_id» (now (coords .entry)) bearing (glyphsOf self) ⌝ }
+    {
+        let hvar = self.hvar;
+        let scale = self.scale;
+        varied_bearing(font, hvar, glyph_id, coords, bearing, scale)
+    }
+
+    // The height of a glyph's advance, from the unvaried one, or the synthesized one.
+    pub fn advance_height(self, font: &[u8], glyph_id: u16, coords: &[i16], advance: u16) -> f32
+        ensures { λ r. ⌜ r ≡ advanceHeight (now (font .entry)) «glyph_id» (now (coords .entry)) advance (glyphsOf self) ⌝ }
+    {
+        let scale = self.scale;
+        let v = self.vertical;
+        match v {
+            Vertical::VmtxGlyf { vvar, .. } => {
+                varied_advance(font, vvar, glyph_id, coords, advance, scale)
+            }
+            Vertical::VmtxVorg { vvar, .. } => {
+                varied_advance(font, vvar, glyph_id, coords, advance, scale)
+            }
+            Vertical::Synthesized {
+                advance: height,
+                ..
+            } => height * scale,
+        }
+    }
+
+    // The top bearing of a glyph, from the unvaried one; a synthesized one is 0.
+    pub fn tsb(self, font: &[u8], glyph_id: u16, coords: &[i16], bearing: i16) -> f32
+        ensures { λ r. ⌜ r ≡ topBearing (now (font .entry)) «glyph_id» (now (coords .entry)) bearing (glyphsOf self) ⌝ }
+    {
+        let scale = self.scale;
+        let v = self.vertical;
+        match v {
+            Vertical::VmtxGlyf { vvar, .. } => {
+                varied_bearing(font, vvar, glyph_id, coords, bearing, scale)
+            }
+            Vertical::VmtxVorg { vvar, .. } => {
+                varied_bearing(font, vvar, glyph_id, coords, bearing, scale)
+            }
+            Vertical::Synthesized { .. } => 0.0 * scale,
+        }
+    }
+
+    // The vertical origin of a glyph: with glyf from its yMax and its unvaried top bearing, with VORG from its origin there, else the synthesized one.
+    pub fn vertical_origin(
+        self,
+        font: &[u8],
+        glyph_id: u16,
+        coords: &[i16],
+        bearing: i16,
+        y_max: Ordinate,
+        origin: Ordinate,
+    ) -> f32
+        ensures { λ r. ⌜ r ≡ verticalOrigin (now (font .entry)) «glyph_id» (now (coords .entry)) bearing (ordinate «y_max») (ordinate origin) (glyphsOf self) ⌝ }
+    {
+        let scale = self.scale;
+        let upem = self.units_per_em;
+        let v = self.vertical;
+        match v {
+            Vertical::VmtxGlyf { .. } => {
+                let tsb = self.tsb(font, glyph_id, coords, bearing);
+                glyf_origin(upem, y_max, tsb) * scale
+            }
+            Vertical::VmtxVorg { .. } => vorg_origin(upem, origin) * scale,
+            Vertical::Synthesized { origin: made, .. } => made * scale,
+        }
+    }
+}
+
+// The same at some coordinates: a synthesized vertical case is shifted by MVAR.
+pub fn materialize_glyph_metrics<'a>(
+    unvaried: GlyphMetrics,
+    font: &'a [u8],
+    coords: &'a [i16],
+) -> GlyphMetrics
+    ensures { λ r. ⌜ glyphsOf r ≡ materializedGlyphs (now (font .entry)) (now (coords .entry)) (glyphsOf unvaried) ⌝ }
+{
+    let v = unvaried.vertical;
+    GlyphMetrics {
+        units_per_em: unvaried.units_per_em,
+        glyph_count: unvaried.glyph_count,
+        hmtx: unvaried.hmtx,
+        hvar: unvaried.hvar,
+        hmtx_count: unvaried.hmtx_count,
+        has_vvar: unvaried.has_vvar,
+        vertical: v.materialize(font, coords),
+        scale: unvaried.scale,
+    }
+}
+
+// An advance by the HVAR or VVAR at an offset.
+fn varied_advance(
+    font: &[u8],
+    xvar: u32,
+    glyph_id: u16,
+    coords: &[i16],
+    unvaried: u16,
+    scale: f32,
+) -> f32
+    ensures { λ r. ⌜ r ≡ varied (now (font .entry)) xvar advance «glyph_id» (now (coords .entry)) (pos unvaried) scale ⌝ }
+{
+    ((unvaried as f32) + advance_delta(font, xvar, glyph_id, coords)) * scale
+}
+
+// A bearing by the same.
+fn varied_bearing(
+    font: &[u8],
+    xvar: u32,
+    glyph_id: u16,
+    coords: &[i16],
+    unvaried: i16,
+    scale: f32,
+) -> f32
+    ensures { λ r. ⌜ r ≡ varied (now (font .entry)) xvar bearing «glyph_id» (now (coords .entry)) unvaried scale ⌝ }
+{
+    ((unvaried as f32) + sb_delta(font, xvar, glyph_id, coords)) * scale
+}
+
+fn glyf_origin(units_per_em: u16, y_max: Ordinate, tsb: f32) -> f32
+    ensures { λ r. ⌜ r ≡ glyfOrigin «units_per_em» (ordinate «y_max») tsb ⌝ }
+{
+    match y_max {
+        Ordinate::Known(y) => (y as f32) + tsb,
+        Ordinate::Missing => units_per_em as f32,
+    }
+}
+
+fn vorg_origin(units_per_em: u16, origin: Ordinate) -> f32
+    ensures { λ r. ⌜ r ≡ vorgOrigin «units_per_em» (ordinate origin) ⌝ }
+{
+    match origin {
+        Ordinate::Known(y) => y as f32,
+        Ordinate::Missing => signed(units_per_em) as f32,
+    }
+}
+
+// n as a signed 16-bit number, as Rust's cast has it.
+fn signed(n: u16) -> i16
+    ensures { λ r. ⌜ r ≡ toZ w16 n ⌝ }
+{
+    if n < 0x8000 { n as i16 } else { !((!n) as i16) }
+}

@@ -1,4 +1,4 @@
--- No second answer: for each public function of `glyph`, two answers that its contract allows are the same. Assumes nothing.
+-- No second answer: for each public function of `glyph` and `vertical`, two answers that its contract allows are the same. Assumes nothing.
 use mathlib.Core.Path.{_≡_, refl, ap, sym, _∙_}
 use Rattle.metrics.specs.Vertical as Vertically
 use Rattle.metrics.specs.Vertical.{vmtxGlyf, vmtxVorg, synthesized}
@@ -7,6 +7,7 @@ use Rattle.metrics.specs.Structs.{verticalOf, glyphsOf}
 use Rattle.metrics.specs.declared.vertical.Vertical.{Vertical}
 use Rattle.metrics.specs.declared.vertical.Vertical.the-variants as W
 use Rattle.metrics.specs.declared.glyph.GlyphMetrics.{GlyphMetrics}
+use Rattle.metrics.proofs.vertical.Vertical.synthesize.Reads as synthesize
 use Rattle.metrics.proofs.glyph.materialize_glyph_metrics.Reads as materialize-glyph-metrics
 use Rattle.metrics.proofs.glyph.GlyphMetrics.has_vertical_metrics.Reads as has-vertical-metrics
 use Rattle.metrics.proofs.glyph.GlyphMetrics.has_variations.Reads as has-variations
@@ -18,19 +19,19 @@ use Rattle.metrics.proofs.glyph.GlyphMetrics.advance_height.Reads as ad
 use Rattle.metrics.proofs.glyph.GlyphMetrics.tsb.Reads as tsb
 use Rattle.metrics.proofs.glyph.GlyphMetrics.vertical_origin.Reads as vertical-origin
 
--- The enum and the struct that stand for some vertical and glyph metrics.
-abbrev upright : Vertically.Vertical → Vertical
-upright (vmtxGlyf locaFmt longCount vmtx vvar glyf loca) = W.VmtxGlyf locaFmt longCount vmtx vvar glyf loca
-upright (vmtxVorg longCount vmtx vvar vorg) = W.VmtxVorg longCount vmtx vvar vorg
-upright (synthesized mvar advance origin) = W.Synthesized mvar advance origin
+-- The enum of some vertical metrics, the struct of some glyph metrics.
+abbrev enumOf : Vertically.Vertical → Vertical
+enumOf (vmtxGlyf locaFmt longCount vmtx vvar glyf loca) = W.VmtxGlyf locaFmt longCount vmtx vvar glyf loca
+enumOf (vmtxVorg longCount vmtx vvar vorg) = W.VmtxVorg longCount vmtx vvar vorg
+enumOf (synthesized mvar advance origin) = W.Synthesized mvar advance origin
 
-upright-back : (v : Vertical) → upright (verticalOf v) ≡ v
-upright-back (W.VmtxGlyf locaFmt longCount vmtx vvar glyf loca) = refl
-upright-back (W.VmtxVorg longCount vmtx vvar vorg) = refl
-upright-back (W.Synthesized mvar advance origin) = refl
+enum-back : (v : Vertical) → enumOf (verticalOf v) ≡ v
+enum-back (W.VmtxGlyf locaFmt longCount vmtx vvar glyf loca) = refl
+enum-back (W.VmtxVorg longCount vmtx vvar vorg) = refl
+enum-back (W.Synthesized mvar advance origin) = refl
 
-abbrev measuring : GlyphMetrics → Vertical → GlyphMetrics
-measuring m v = record {
+abbrev withEnum : GlyphMetrics → Vertical → GlyphMetrics
+withEnum m v = record {
   «units_per_em» = m .«units_per_em»;
   «glyph_count» = m .«glyph_count»;
   hmtx = m .hmtx;
@@ -41,23 +42,26 @@ measuring m v = record {
   scale = m .scale;
 }
 
-abbrev glyphing : Glyph.GlyphMetrics → GlyphMetrics
-glyphing m = record {
+abbrev structOf : Glyph.GlyphMetrics → GlyphMetrics
+structOf m = record {
   «units_per_em» = m .unitsPerEm;
   «glyph_count» = m .glyphCount;
   hmtx = m .hmtx;
   hvar = m .hvar;
   «hmtx_count» = m .hmtxCount;
   «has_vvar» = m .hasVvar;
-  vertical = upright (m .vertical);
+  vertical = enumOf (m .vertical);
   scale = m .scale;
 }
 
-glyphs-back : (m : GlyphMetrics) → glyphing (glyphsOf m) ≡ m
-glyphs-back m = ap (measuring m) (upright-back (m .vertical))
+glyphs-back : (m : GlyphMetrics) → structOf (glyphsOf m) ≡ m
+glyphs-back m = ap (withEnum m) (enum-back (m .vertical))
 
 oneGlyphs : {m : Glyph.GlyphMetrics} {r r′ : GlyphMetrics} → glyphsOf r ≡ m → glyphsOf r′ ≡ m → r ≡ r′
-oneGlyphs {r = r} {r′ = r′} p q = sym (glyphs-back r) ∙ ap glyphing (p ∙ sym q) ∙ glyphs-back r′
+oneGlyphs {r = r} {r′ = r′} p q = sym (glyphs-back r) ∙ ap structOf (p ∙ sym q) ∙ glyphs-back r′
+
+pub synthesize-one : (κs : _) (a : _) (r r′ : _) (s s′ : _) → synthesize.Post κs a r s → synthesize.Post κs a r′ s′ → r ≡ r′
+synthesize-one κs a r r′ s s′ p q = sym (enum-back r) ∙ ap enumOf (p ∙ sym q) ∙ enum-back r′
 
 pub materialize-glyph-metrics-one : (κs : _) (a : _) (r r′ : _) (s s′ : _) → materialize-glyph-metrics.Post κs a r s → materialize-glyph-metrics.Post κs a r′ s′ → r ≡ r′
 materialize-glyph-metrics-one κs a r r′ s s′ p q = oneGlyphs p q

@@ -7,9 +7,9 @@ use Rattle.metrics.proofs.measures.materialize_metrics.Reads as materia
 use Rattle.metrics.proofs.measures.Metrics.scale.Reads as scale
 use Rattle.metrics.proofs.measures.Metrics.linear_scale.Reads as linear-scale
 
--- The struct that stands for some measures.
-measuring : Measures.Metrics → Metrics
-measuring m = record {
+-- The struct of some measures.
+structOf : Measures.Metrics → Metrics
+structOf m = record {
   «units_per_em» = m .unitsPerEm;
   «glyph_count» = m .glyphCount;
   «is_monospace» = m .isMonospace;
@@ -30,8 +30,8 @@ measuring m = record {
 }
 
 oneMetrics : {m : Measures.Metrics} {r r′ : Metrics} → metricsOf r ≡ m → metricsOf r′ ≡ m → r ≡ r′
-unfolding measuring
-oneMetrics p q = ap measuring (p ∙ sym q)
+unfolding structOf
+oneMetrics p q = ap structOf (p ∙ sym q)
 
 pub materialize-metrics-one : (κs : _) (a : _) (r r′ : _) (s s′ : _) → materialize-metrics.Post κs a r s → materialize-metrics.Post κs a r′ s′ → r ≡ r′
 materialize-metrics-one κs a r r′ s s′ p q = oneMetrics p q

@@ -4,17 +4,18 @@ use mathlib.Core.Path.{_≡_, refl}
 use mathlib.Core.Bool.{Bool, true, false}
 use mathlib.Core.List.{List, [], _∷_}
 use lib.IntN.{ℤ, pos, negsuc}
-use lib.Ieee.{Float, fin, nan, inf, add, mul, div, ofInt, eq}
+use lib.ListN.{drop}
+use lib.Ieee.{Float, fin, nan, inf, binary32, ofBits, add, mul, div, ofInt, eq}
 use Rattle.numbers.specs.Floats.{toFloat}
 use Rattle.store.specs.Mvar.{headerAt, indexIn, searchIn, find, tagDelta, mvarDelta}
 use Rattle.store.proofs.DeltaTable.{computing}
 use Rattle.metrics.specs.Scale.{float, scaleFor}
-use Rattle.metrics.specs.Measures.{Metrics, varies, materializedMetrics, linearScaled}
+use Rattle.metrics.specs.Measures.{Metrics, varies, materializedMetrics, linearScaled, scaledMetrics}
 
 -- What every example of measures unfolds; `eq`, so that a definition that tests a delta for 0.0 computes too.
-unfoldable pub measuring : Unit {0}
-unfolding computing headerAt indexIn searchIn find tagDelta mvarDelta varies toFloat add mul div ofInt eq
-measuring = tt
+unfoldable pub computing-measures : Unit {0}
+unfolding computing headerAt indexIn searchIn find tagDelta mvarDelta varies toFloat ofBits add mul div ofInt eq
+computing-measures = tt
 
 -- Two bytes, and an MVAR of some of eleven records. Its store has no axes and one region, so that it varies at all coordinates: by 1 for the first tag up to 11 for the last.
 abbrev pub mvarFont : ℕ → List ℕ
@@ -69,27 +70,23 @@ unvaried vertical = whole vertical 100 200 300 400 500 600 700 800 900 1000 1100
 
 -- Each tag shifts its own measure; the vertical ones only with vertical metrics.
 pub all-eleven : materializedMetrics (mvarFont 11) 2 default (unvaried true) ≡ whole true 102 203 304 408 509 610 701 811 900 1000 1106 1205 1307
-unfolding measuring
+unfolding computing-measures
 all-eleven = refl
 
 pub no-vertical-metrics : materializedMetrics (mvarFont 11) 2 default (unvaried false) ≡ whole false 102 203 304 400 500 600 701 811 900 1000 1106 1205 1307
-unfolding measuring
+unfolding computing-measures
 no-vertical-metrics = refl
 
--- Nothing is shifted for an empty list, at an offset of 0, and where MVAR does not open: here it has no records.
+-- Nothing is shifted for an empty list, and at an offset of 0, though it opens there.
 pub empty-list : materializedMetrics (mvarFont 11) 2 [] (unvaried true) ≡ unvaried true
-unfolding measuring
+unfolding computing-measures
 empty-list = refl
 
-pub offset-0 : materializedMetrics (0 ∷ 1 ∷ 0 ∷ 0 ∷ 0 ∷ 0 ∷ 0 ∷ 8 ∷ 0 ∷ 1 ∷ 0 ∷ 100 ∷ []) 0 default (unvaried true) ≡ unvaried true
-unfolding measuring
+pub offset-0 : materializedMetrics (drop 2 (mvarFont 11)) 0 default (unvaried true) ≡ unvaried true
+unfolding computing-measures
 offset-0 = refl
 
-pub no-records : materializedMetrics (mvarFont 0) 2 default (unvaried true) ≡ unvaried true
-unfolding measuring
-no-records = refl
-
--- A tag that is refused has the delta 0.0, and that is added too once MVAR opens: -0.0 becomes 0.0. Only the first tag, cpht, has a record here. Where MVAR does not open -0.0 stays.
+-- A tag that is refused has the delta 0.0, and that is added too once MVAR opens: -0.0 becomes 0.0. Only the first tag, cpht, has a record here.
 abbrev minusZero : Float
 minusZero = fin true 0 (pos 0)
 
@@ -99,16 +96,30 @@ zeros = linearScaled minusZero (unvaried true)
 pub adds-zero :
     (materializedMetrics (mvarFont 1) 2 default zeros .ascent ≡ float (pos 0))
     × (materializedMetrics (mvarFont 1) 2 default zeros .verticalAscent ≡ float (pos 0))
+    × (materializedMetrics (mvarFont 1) 2 default zeros .averageWidth ≡ minusZero)
     × (materializedMetrics (mvarFont 1) 2 default zeros .capHeight ≡ float (pos 1))
-    × (materializedMetrics (mvarFont 0) 2 default zeros .ascent ≡ minusZero)
-unfolding measuring
+unfolding computing-measures
 adds-zero = (refl, refl, refl, refl)
 
--- Over units per em; 1 if that is 0, also for a NaN.
-pub scales : (scaleFor (float (pos 16)) 2048 ≡ fin false 1 (negsuc 6)) × (scaleFor nan 0 ≡ float (pos 1)) × (scaleFor (inf true) 1000 ≡ inf true)
-unfolding measuring
-scales = (refl, refl, refl)
+-- Where MVAR does not open, here for want of records, -0.0 stays.
+pub no-records : materializedMetrics (mvarFont 0) 2 default zeros ≡ zeros
+unfolding computing-measures
+no-records = refl
+
+-- Over units per em, rounded once: 5 over 1000 is not 5 times a rounded 1/1000. 1 if units per em is 0, also for a NaN.
+pub scales :
+    (scaleFor (float (pos 16)) 2048 ≡ fin false 1 (negsuc 6))
+    × (scaleFor (float (pos 5)) 1000 ≡ ofBits binary32 0x3ba3_d70a)
+    × (scaleFor nan 0 ≡ float (pos 1))
+    × (scaleFor (inf true) 1000 ≡ inf true)
+unfolding computing-measures
+scales = (refl, refl, refl, refl)
 
 pub all-scaled : linearScaled (float (pos 2)) (unvaried true) ≡ whole true 200 400 600 800 1000 1200 1400 1600 1800 2000 2200 2400 2600
-unfolding measuring
+unfolding computing-measures
 all-scaled = refl
+
+-- For 7 pixels per em: 100 times the rounded 7/1000, which is not 700/1000 rounded once.
+pub for-pixels : scaledMetrics (float (pos 7)) (unvaried true) .ascent ≡ ofBits binary32 0x3f33_3334
+unfolding computing-measures
+for-pixels = refl

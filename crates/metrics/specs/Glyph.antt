@@ -10,9 +10,9 @@ use mir.Syntax.{w16}
 use mir.Val.{toZ}
 use Rattle.store.specs.Metric.{Measure, advance, bearing, metricDelta, floatOf}
 use Rattle.metrics.specs.Scale.{zero, plus, times, float, adjusted, scaleFor}
-use Rattle.metrics.specs.Vertical.{Vertical, vmtxGlyf, vmtxVorg, synthesized, hasTables, materializedVertical}
+use Rattle.metrics.specs.Vertical.{Vertical, vmtxGlyf, vmtxVorg, synthesized, materializedVertical}
 
--- What is the same for all glyphs of a font: where its tables are, how many there are of what, and the scale.
+-- What is the same for all glyphs of a font: units per em, counts, where tables are, and the scale.
 pub record GlyphMetrics : Type 0 where
   pub unitsPerEm : ℕ
   pub glyphCount : ℕ
@@ -67,39 +67,39 @@ advanceWidth font glyph coords unvaried m = varied font (m .hvar) advance glyph 
 abbrev pub leftBearing : List ℕ → ℕ → List ℤ → ℤ → GlyphMetrics → Float
 leftBearing font glyph coords unvaried m = varied font (m .hvar) bearing glyph coords unvaried (m .scale)
 
--- The height of a glyph's advance: by vmtx and VVAR, or the synthesized one.
-abbrev pub heightBy : List ℕ → ℕ → List ℤ → ℕ → Float → Vertical → Float
-heightBy font glyph coords unvaried scale (vmtxGlyf _ _ _ vvar _ _) = varied font vvar advance glyph coords (pos unvaried) scale
-heightBy font glyph coords unvaried scale (vmtxVorg _ _ vvar _) = varied font vvar advance glyph coords (pos unvaried) scale
-heightBy font glyph coords unvaried scale (synthesized _ height _) = times height scale
+-- The advance height: by vmtx and VVAR, or the synthesized one.
+abbrev pub heightOf : List ℕ → ℕ → List ℤ → ℕ → Float → Vertical → Float
+heightOf font glyph coords unvaried scale (vmtxGlyf _ _ _ vvar _ _) = varied font vvar advance glyph coords (pos unvaried) scale
+heightOf font glyph coords unvaried scale (vmtxVorg _ _ vvar _) = varied font vvar advance glyph coords (pos unvaried) scale
+heightOf font glyph coords unvaried scale (synthesized _ height _) = times height scale
 
 abbrev pub advanceHeight : List ℕ → ℕ → List ℤ → ℕ → GlyphMetrics → Float
-advanceHeight font glyph coords unvaried m = heightBy font glyph coords unvaried (m .scale) (m .vertical)
+advanceHeight font glyph coords unvaried m = heightOf font glyph coords unvaried (m .scale) (m .vertical)
 
--- The top bearing: a synthesized one is 0.0, scaled.
-abbrev pub topBy : List ℕ → ℕ → List ℤ → ℤ → Float → Vertical → Float
-topBy font glyph coords unvaried scale (vmtxGlyf _ _ _ vvar _ _) = varied font vvar bearing glyph coords unvaried scale
-topBy font glyph coords unvaried scale (vmtxVorg _ _ vvar _) = varied font vvar bearing glyph coords unvaried scale
-topBy font glyph coords unvaried scale (synthesized _ _ _) = times zero scale
+-- The top side bearing: a synthesized one is 0.0, scaled too.
+abbrev pub topOf : List ℕ → ℕ → List ℤ → ℤ → Float → Vertical → Float
+topOf font glyph coords unvaried scale (vmtxGlyf _ _ _ vvar _ _) = varied font vvar bearing glyph coords unvaried scale
+topOf font glyph coords unvaried scale (vmtxVorg _ _ vvar _) = varied font vvar bearing glyph coords unvaried scale
+topOf font glyph coords unvaried scale (synthesized _ _ _) = times zero scale
 
 abbrev pub topBearing : List ℕ → ℕ → List ℤ → ℤ → GlyphMetrics → Float
-topBearing font glyph coords unvaried m = topBy font glyph coords unvaried (m .scale) (m .vertical)
+topBearing font glyph coords unvaried m = topOf font glyph coords unvaried (m .scale) (m .vertical)
 
--- The vertical origin with glyf: the glyph's yMax and its top bearing. As the Rust has it, the bearing is scaled before the sum, and once more with it. Without an outline: units per em.
+-- The vertical origin with glyf, before scaling: the glyph's yMax plus a top side bearing; without an outline, units per em.
 abbrev pub glyfOrigin : ℕ → Option ℤ → Float → Float
 glyfOrigin unitsPerEm none tsb = float (pos unitsPerEm)
 glyfOrigin unitsPerEm (some yMax) tsb = plus (float yMax) tsb
 
--- The vertical origin with VORG. As the Rust has it, one that is missing is units per em as a signed 16-bit number.
+-- The same with VORG. As the Rust has it, an origin that is missing is units per em as a signed 16-bit number.
 abbrev pub vorgOrigin : ℕ → Option ℤ → Float
 vorgOrigin unitsPerEm none = float (toZ w16 unitsPerEm)
 vorgOrigin unitsPerEm (some origin) = float origin
 
--- The vertical origin from a glyph's top bearing, already scaled, its yMax and its VORG origin.
-abbrev pub originBy : ℕ → Option ℤ → Option ℤ → Float → Float → Vertical → Float
-originBy unitsPerEm yMax origin tsb scale (vmtxGlyf _ _ _ _ _ _) = times (glyfOrigin unitsPerEm yMax tsb) scale
-originBy unitsPerEm yMax origin tsb scale (vmtxVorg _ _ _ _) = times (vorgOrigin unitsPerEm origin) scale
-originBy unitsPerEm yMax origin tsb scale (synthesized _ _ made) = times made scale
+-- The vertical origin. As the Rust has it, the top side bearing that is handed in is scaled already, and scaled once more with yMax.
+abbrev pub originOf : ℕ → Option ℤ → Option ℤ → Float → Float → Vertical → Float
+originOf unitsPerEm yMax origin tsb scale (vmtxGlyf _ _ _ _ _ _) = times (glyfOrigin unitsPerEm yMax tsb) scale
+originOf unitsPerEm yMax origin tsb scale (vmtxVorg _ _ _ _) = times (vorgOrigin unitsPerEm origin) scale
+originOf unitsPerEm yMax origin tsb scale (synthesized _ _ made) = times made scale
 
 abbrev pub verticalOrigin : List ℕ → ℕ → List ℤ → ℤ → Option ℤ → Option ℤ → GlyphMetrics → Float
-verticalOrigin font glyph coords tsb yMax origin m = originBy (m .unitsPerEm) yMax origin (topBearing font glyph coords tsb m) (m .scale) (m .vertical)
+verticalOrigin font glyph coords unvaried yMax origin m = originOf (m .unitsPerEm) yMax origin (topBearing font glyph coords unvaried m) (m .scale) (m .vertical)

@@ -9,7 +9,7 @@ use lib.Ieee.{Float}
 use Rattle.readers.specs.Outcome.{Outcome, value, refused}
 use Rattle.readers.specs.Reading.{run}
 use Rattle.store.specs.Metric.{floatOf}
-use Rattle.store.specs.Mvar.{Header, headerAt, tagDelta, mvarDelta}
+use Rattle.store.specs.Mvar.{Header, headerAt, mvarDelta}
 use Rattle.metrics.specs.Scale.{plus, times, scaleFor}
 
 -- The thirteen float measures; units per em, glyph count and the two flags ride along.
@@ -66,99 +66,63 @@ stro = 0x7374_726f
 abbrev pub unds : ℕ
 unds = 0x756e_6473
 
--- The horizontal measures with their tags' deltas, each added once; average and maximum width stay. As the Rust has it, hdsc is added to the descent, which is minus OpenType's descender, and the
--- stroke size follows unds alone.
-abbrev pub shiftedHorizontal : (ℕ → Float) → Metrics → Metrics
-shiftedHorizontal delta m = record {
+-- When a measure follows a value tag: always, with vertical metrics only, or never any.
+pub data Follows : Type 0 where
+  always : ℕ → Follows
+  vertically : ℕ → Follows
+  never : Follows
+
+-- The measures, each changed by a rule that knows what it follows. As the Rust has it, the descent, which is minus OpenType's descender, follows hdsc, and the stroke size follows unds alone.
+abbrev pub each : (Follows → Float → Float) → Metrics → Metrics
+each rule m = record {
   unitsPerEm = m .unitsPerEm;
   glyphCount = m .glyphCount;
   isMonospace = m .isMonospace;
   hasVerticalMetrics = m .hasVerticalMetrics;
-  ascent = plus (m .ascent) (delta hasc);
-  descent = plus (m .descent) (delta hdsc);
-  leading = plus (m .leading) (delta hlgp);
-  verticalAscent = m .verticalAscent;
-  verticalDescent = m .verticalDescent;
-  verticalLeading = m .verticalLeading;
-  capHeight = plus (m .capHeight) (delta cpht);
-  xHeight = plus (m .xHeight) (delta xhgt);
-  averageWidth = m .averageWidth;
-  maxWidth = m .maxWidth;
-  underlineOffset = plus (m .underlineOffset) (delta undo);
-  strikeoutOffset = plus (m .strikeoutOffset) (delta stro);
-  strokeSize = plus (m .strokeSize) (delta unds);
+  ascent = rule (always hasc) (m .ascent);
+  descent = rule (always hdsc) (m .descent);
+  leading = rule (always hlgp) (m .leading);
+  verticalAscent = rule (vertically vasc) (m .verticalAscent);
+  verticalDescent = rule (vertically vdsc) (m .verticalDescent);
+  verticalLeading = rule (vertically vlgp) (m .verticalLeading);
+  capHeight = rule (always cpht) (m .capHeight);
+  xHeight = rule (always xhgt) (m .xHeight);
+  averageWidth = rule never (m .averageWidth);
+  maxWidth = rule never (m .maxWidth);
+  underlineOffset = rule (always undo) (m .underlineOffset);
+  strikeoutOffset = rule (always stro) (m .strikeoutOffset);
+  strokeSize = rule (always unds) (m .strokeSize);
 }
 
--- The three vertical ones.
-abbrev pub shiftedVertical : (ℕ → Float) → Metrics → Metrics
-shiftedVertical delta m = record {
-  unitsPerEm = m .unitsPerEm;
-  glyphCount = m .glyphCount;
-  isMonospace = m .isMonospace;
-  hasVerticalMetrics = m .hasVerticalMetrics;
-  ascent = m .ascent;
-  descent = m .descent;
-  leading = m .leading;
-  verticalAscent = plus (m .verticalAscent) (delta vasc);
-  verticalDescent = plus (m .verticalDescent) (delta vdsc);
-  verticalLeading = plus (m .verticalLeading) (delta vlgp);
-  capHeight = m .capHeight;
-  xHeight = m .xHeight;
-  averageWidth = m .averageWidth;
-  maxWidth = m .maxWidth;
-  underlineOffset = m .underlineOffset;
-  strikeoutOffset = m .strikeoutOffset;
-  strokeSize = m .strokeSize;
-}
+-- A measure with the delta of its tag, added once; that of a vertical tag only with vertical metrics.
+abbrev pub shift : Bool → (ℕ → Float) → Follows → Float → Float
+shift vertical delta (always t) x = plus x (delta t)
+shift vertical delta (vertically t) x = cond vertical (plus x (delta t)) x
+shift vertical delta never x = x
 
--- The measures with their eleven deltas, the three vertical ones only with vertical metrics.
 abbrev pub shifted : (ℕ → Float) → Metrics → Metrics
-shifted delta m = cond (m .hasVerticalMetrics) (shiftedVertical delta (shiftedHorizontal delta m)) (shiftedHorizontal delta m)
+shifted delta m = each (shift (m .hasVerticalMetrics) delta) m
 
--- Whether there is an MVAR and there are coordinates; whether it opens.
-abbrev pub asked : ℕ → List ℤ → Bool
-asked mvar coords = not (eqb mvar 0) && not (eqb (length coords) 0)
-
+-- Whether a header was read.
 abbrev pub opens : Outcome Header → Bool
 opens (value header) = true
 opens (refused n) = false
 
--- Where MVAR shifts measures: its offset is not 0, the coordinate list is not empty, and it opens.
+-- Where MVAR shifts measures: its offset is not 0, it opens, and the coordinate list is not empty.
 unfoldable pub varies : List ℕ → ℕ → List ℤ → Bool
-varies font mvar coords = asked mvar coords && opens (run (drop mvar font) headerAt)
+varies font mvar coords = not (eqb mvar 0) && (opens (run (drop mvar font) headerAt) && not (eqb (length coords) 0))
 
--- The delta of a measure's tag, as a float: 0.0 on any refusal. The same, once the header is known.
+-- The delta of a measure's tag, as a float: 0.0 on any refusal.
 abbrev pub measureDelta : List ℕ → ℕ → List ℤ → ℕ → Float
 measureDelta font mvar coords tag = floatOf (mvarDelta font mvar tag coords)
-
-abbrev pub headerDelta : List ℕ → ℕ → Header → List ℤ → ℕ → Float
-headerDelta font mvar header coords tag = floatOf (run (drop mvar font) (tagDelta header coords tag))
 
 -- The measures at some coordinates.
 abbrev pub materializedMetrics : List ℕ → ℕ → List ℤ → Metrics → Metrics
 materializedMetrics font mvar coords m = cond (varies font mvar coords) (shifted (measureDelta font mvar coords) m) m
 
--- The measures scaled by a factor, field by field; for pixels per em.
+-- The measures scaled by a factor, each times it; for pixels per em.
 abbrev pub linearScaled : Float → Metrics → Metrics
-linearScaled s m = record {
-  unitsPerEm = m .unitsPerEm;
-  glyphCount = m .glyphCount;
-  isMonospace = m .isMonospace;
-  hasVerticalMetrics = m .hasVerticalMetrics;
-  ascent = times (m .ascent) s;
-  descent = times (m .descent) s;
-  leading = times (m .leading) s;
-  verticalAscent = times (m .verticalAscent) s;
-  verticalDescent = times (m .verticalDescent) s;
-  verticalLeading = times (m .verticalLeading) s;
-  capHeight = times (m .capHeight) s;
-  xHeight = times (m .xHeight) s;
-  averageWidth = times (m .averageWidth) s;
-  maxWidth = times (m .maxWidth) s;
-  underlineOffset = times (m .underlineOffset) s;
-  strikeoutOffset = times (m .strikeoutOffset) s;
-  strokeSize = times (m .strokeSize) s;
-}
+linearScaled s m = each (λ _ x. times x s) m
 
 abbrev pub scaledMetrics : Float → Metrics → Metrics
 scaledMetrics ppem m = linearScaled (scaleFor ppem (m .unitsPerEm)) m

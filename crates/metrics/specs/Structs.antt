@@ -1,7 +1,11 @@
--- What the structs and enums of `metrics` stand for.
+-- What the structs and enums of `metrics` stand for, and a step on the way.
+use Prim.Native.Nat.{ℕ}
 use mathlib.Core.Option.{Option, none, some}
 use lib.IntN.{ℤ}
+use lib.Ieee.{Float}
+use Rattle.metrics.specs.Scale.{plus}
 use Rattle.metrics.specs.Measures as Measures
+use Rattle.metrics.specs.Measures.{Follows, always, vertically, never}
 use Rattle.metrics.specs.Vertical as Vertically
 use Rattle.metrics.specs.Vertical.{vmtxGlyf, vmtxVorg, synthesized}
 use Rattle.metrics.specs.Glyph as Glyph
@@ -53,3 +57,9 @@ glyphsOf m = record {
 abbrev pub ordinate : Ordinate → Option ℤ
 ordinate (O.Known y) = some y
 ordinate O.Missing = none
+
+-- A step of shifting: the vertical measures alone, with the deltas of their tags.
+abbrev pub shiftVertical : (ℕ → Float) → Follows → Float → Float
+shiftVertical delta (always t) x = x
+shiftVertical delta (vertically t) x = plus x (delta t)
+shiftVertical delta never x = x

@@ -1,4 +1,4 @@
--- What a font has for vertical type, and a synthesized one shifted by MVAR (document 01, "Measures").
+-- What a font has for vertical type; what is synthesized, where it has nothing, is shifted by MVAR (document 01, "Measures").
 use Prim.Native.Nat.{ℕ}
 use mathlib.Core.Bool.{Bool, true, false, cond}
 use mathlib.Core.List.{List}
@@ -7,19 +7,23 @@ use lib.Ieee.{Float}
 use Rattle.metrics.specs.Scale.{plus}
 use Rattle.metrics.specs.Measures.{hasc, hdsc, varies, measureDelta}
 
--- vmtx with glyf, or with VORG, each by its tables' offsets and numbers; or advance and origin as floats, made from the font's measures.
+-- vmtx with glyf, or with VORG, by the tables' offsets and counts; or an advance height and an origin for all glyphs, as floats.
 pub data Vertical : Type 0 where
   vmtxGlyf : (locaFmt longCount vmtx vvar glyf loca : ℕ) → Vertical
   vmtxVorg : (longCount vmtx vvar vorg : ℕ) → Vertical
   synthesized : (mvar : ℕ) (advance origin : Float) → Vertical
 
--- Whether the font itself has vertical metrics.
-abbrev pub hasTables : Vertical → Bool
-hasTables (vmtxGlyf _ _ _ _ _ _) = true
-hasTables (vmtxVorg _ _ _ _) = true
-hasTables (synthesized _ _ _) = false
+-- Whether the font itself has vertical metrics for its glyphs.
+abbrev pub hasVerticalMetrics : Vertical → Bool
+hasVerticalMetrics (vmtxGlyf _ _ _ _ _ _) = true
+hasVerticalMetrics (vmtxVorg _ _ _ _) = true
+hasVerticalMetrics (synthesized _ _ _) = false
 
--- The synthesized advance is ascent plus descent, and the origin lies an ascent above the baseline: so the deltas of hasc and hdsc, added first, shift the one, and that of hasc shifts the other.
+-- As swash synthesizes it from a font's measures: the advance is ascent plus descent, and the origin lies an ascent above the baseline.
+abbrev pub synthesizedFrom : ℕ → Float → Float → Vertical
+synthesizedFrom mvar ascent descent = synthesized mvar (plus ascent descent) ascent
+
+-- So the deltas of hasc and hdsc, added to each other first, shift the one, and that of hasc shifts the other.
 abbrev pub shiftedSynthesized : (ℕ → Float) → ℕ → Float → Float → Vertical
 shiftedSynthesized delta mvar advance origin = synthesized mvar (plus advance (plus (delta hasc) (delta hdsc))) (plus origin (delta hasc))
 

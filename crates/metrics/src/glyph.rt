@@ -8,7 +8,8 @@ ghost use lib.IntN.{pos};
 ghost use mir.Syntax.{w16};
 ghost use mir.Val.{toZ};
 ghost use Rattle.store.specs.Metric.{advance, bearing};
-ghost use Rattle.metrics.specs.Vertical.{hasTables};
+ghost use Rattle.metrics.specs.Scale.{adjusted};
+ghost use Rattle.metrics.specs.Vertical.{hasVerticalMetrics};
 ghost use Rattle.metrics.specs.Glyph.{hasVariations, withScale, scaledGlyphs, materializedGlyphs, varied, advanceWidth, leftBearing, advanceHeight, topBearing, glyfOrigin, vorgOrigin, verticalOrigin};
 ghost use Rattle.metrics.specs.Structs.{glyphsOf, ordinate};
 
@@ -18,8 +19,8 @@ pub enum Ordinate {
     Missing,
 }
 
-// What is the same for all glyphs of a font. Font, coordinates and a glyph's unvaried numbers are lent and given to each call; the offsets and counts of hmtx and
-// of vertical tables are kept for whoever reads those numbers.
+// What is the same for all glyphs of a font. Each call is lent the font and the coordinates and given the glyph's unvaried numbers; the offsets and counts of hmtx and
+// of the vertical tables are kept for whoever reads those.
 pub struct GlyphMetrics {
     pub units_per_em: u16,
     pub glyph_count: u16,
@@ -32,9 +33,9 @@ pub struct GlyphMetrics {
 }
 
 impl GlyphMetrics {
-    // Whether the font itself has vertical metrics.
+    // Whether the font itself has vertical metrics for its glyphs.
     pub fn has_vertical_metrics(self) -> bool
-        ensures { λ r. ⌜ r ≡ hasTables (glyphsOf self .vertical) ⌝ }
+        ensures { λ r. ⌜ r ≡ hasVerticalMetrics (glyphsOf self .vertical) ⌝ }
     {
         let v = self.vertical;
         v.has_vertical_metrics()
@@ -58,7 +59,7 @@ impl GlyphMetrics {
         self.linear_scale(scale_for(ppem, upem))
     }
 
-    // The same with this factor, whatever the scale was.
+    // The same with this scale, whatever it was.
     pub fn linear_scale(mut self, scale: f32) -> GlyphMetrics
         ensures { λ r. ⌜ glyphsOf r ≡ withScale scale (glyphsOf self) ⌝ }
     {
@@ -66,36 +67,36 @@ impl GlyphMetrics {
         self
     }
 
-    // The width of a glyph's advance, from the unvaried one.
-    pub fn advance_width(self, font: &[u8], glyph_id: u16, coords: &[i16], advance: u16) -> f32
-        ensures { λ r. ⌜ r ≡ advanceWidth (now (font .entry)) «glyph_id» (now (coords .entry)) advance (glyphsOf self) ⌝ }
+    // The advance width of a glyph, from the unvaried one.
+    pub fn advance_width(self, font: &[u8], glyph_id: u16, coords: &[i16], unvaried: u16) -> f32
+        ensures { λ r. ⌜ r ≡ advanceWidth (now (font .entry)) «glyph_id» (now (coords .entry)) unvaried (glyphsOf self) ⌝ }
     {
         let hvar = self.hvar;
         let scale = self.scale;
-        varied_advance(font, hvar, glyph_id, coords, advance, scale)
+        varied_advance(font, hvar, glyph_id, coords, unvaried, scale)
     }
 
-    // The left bearing of a glyph, from the unvaried one.
-    pub fn lsb(self, font: &[u8], glyph_id: u16, coords: &[i16], bearing: i16) -> f32
-        ensures { λ r. ⌜ r ≡ leftBearing (now (font .entry)) «glyph_id» (now (coords .entry)) bearing (glyphsOf self) ⌝ }
+    // The left side bearing of a glyph, from the unvaried one.
+    pub fn lsb(self, font: &[u8], glyph_id: u16, coords: &[i16], unvaried: i16) -> f32
+        ensures { λ r. ⌜ r ≡ leftBearing (now (font .entry)) «glyph_id» (now (coords .entry)) unvaried (glyphsOf self) ⌝ }
     {
         let hvar = self.hvar;
         let scale = self.scale;
-        varied_bearing(font, hvar, glyph_id, coords, bearing, scale)
+        varied_bearing(font, hvar, glyph_id, coords, unvaried, scale)
     }
 
-    // The height of a glyph's advance, from the unvaried one, or the synthesized one.
-    pub fn advance_height(self, font: &[u8], glyph_id: u16, coords: &[i16], advance: u16) -> f32
-        ensures { λ r. ⌜ r ≡ advanceHeight (now (font .entry)) «glyph_id» (now (coords .entry)) advance (glyphsOf self) ⌝ }
+    // The advance height of a glyph, from the unvaried one; or the synthesized one.
+    pub fn advance_height(self, font: &[u8], glyph_id: u16, coords: &[i16], unvaried: u16) -> f32
+        ensures { λ r. ⌜ r ≡ advanceHeight (now (font .entry)) «glyph_id» (now (coords .entry)) unvaried (glyphsOf self) ⌝ }
     {
         let scale = self.scale;
         let v = self.vertical;
         match v {
             Vertical::VmtxGlyf { vvar, .. } => {
-                varied_advance(font, vvar, glyph_id, coords, advance, scale)
+                varied_advance(font, vvar, glyph_id, coords, unvaried, scale)
             }
             Vertical::VmtxVorg { vvar, .. } => {
-                varied_advance(font, vvar, glyph_id, coords, advance, scale)
+                varied_advance(font, vvar, glyph_id, coords, unvaried, scale)
             }
             Vertical::Synthesized {
                 advance: height,
@@ -104,50 +105,67 @@ impl GlyphMetrics {
         }
     }
 
-    // The top bearing of a glyph, from the unvaried one; a synthesized one is 0.
-    pub fn tsb(self, font: &[u8], glyph_id: u16, coords: &[i16], bearing: i16) -> f32
-        ensures { λ r. ⌜ r ≡ topBearing (now (font .entry)) «glyph_id» (now (coords .entry)) bearing (glyphsOf self) ⌝ }
+    // The top side bearing of a glyph, from the unvaried one; or a synthesized 0.0, scaled too.
+    pub fn tsb(self, font: &[u8], glyph_id: u16, coords: &[i16], unvaried: i16) -> f32
+        ensures { λ r. ⌜ r ≡ topBearing (now (font .entry)) «glyph_id» (now (coords .entry)) unvaried (glyphsOf self) ⌝ }
     {
         let scale = self.scale;
         let v = self.vertical;
         match v {
             Vertical::VmtxGlyf { vvar, .. } => {
-                varied_bearing(font, vvar, glyph_id, coords, bearing, scale)
+                varied_bearing(font, vvar, glyph_id, coords, unvaried, scale)
             }
             Vertical::VmtxVorg { vvar, .. } => {
-                varied_bearing(font, vvar, glyph_id, coords, bearing, scale)
+                varied_bearing(font, vvar, glyph_id, coords, unvaried, scale)
             }
             Vertical::Synthesized { .. } => 0.0 * scale,
         }
     }
 
-    // The vertical origin of a glyph: with glyf from its yMax and its unvaried top bearing, with VORG from its origin there, else the synthesized one.
+    // The vertical origin of a glyph: with glyf from its yMax and its unvaried top side bearing, with VORG from its origin there; or the synthesized one.
     pub fn vertical_origin(
         self,
         font: &[u8],
         glyph_id: u16,
         coords: &[i16],
-        bearing: i16,
+        unvaried: i16,
         y_max: Ordinate,
         origin: Ordinate,
     ) -> f32
-        ensures { λ r. ⌜ r ≡ verticalOrigin (now (font .entry)) «glyph_id» (now (coords .entry)) bearing (ordinate «y_max») (ordinate origin) (glyphsOf self) ⌝ }
+        ensures { λ r. ⌜ r ≡ verticalOrigin (now (font .entry)) «glyph_id» (now (coords .entry)) unvaried (ordinate «y_max») (ordinate origin) (glyphsOf self) ⌝ }
     {
         let scale = self.scale;
         let upem = self.units_per_em;
         let v = self.vertical;
         match v {
             Vertical::VmtxGlyf { .. } => {
-                let tsb = self.tsb(font, glyph_id, coords, bearing);
-                glyf_origin(upem, y_max, tsb) * scale
+                self.glyf_origin(font, glyph_id, coords, unvaried, y_max) * scale
             }
             Vertical::VmtxVorg { .. } => vorg_origin(upem, origin) * scale,
             Vertical::Synthesized { origin: made, .. } => made * scale,
         }
     }
+
+    // The vertical origin with glyf, before scaling; but its bearing is scaled, as in swash. It is asked for only where there is a yMax.
+    fn glyf_origin(
+        self,
+        font: &[u8],
+        glyph_id: u16,
+        coords: &[i16],
+        unvaried: i16,
+        y_max: Ordinate,
+    ) -> f32
+        ensures { λ r. ⌜ r ≡ glyfOrigin (glyphsOf self .unitsPerEm) (ordinate «y_max») (topBearing (now (font .entry)) «glyph_id» (now (coords .entry)) unvaried (glyphsOf self)) ⌝ }
+    {
+        let upem = self.units_per_em;
+        match y_max {
+            Ordinate::Known(y) => (y as f32) + self.tsb(font, glyph_id, coords, unvaried),
+            Ordinate::Missing => upem as f32,
+        }
+    }
 }
 
-// The same at some coordinates: a synthesized vertical case is shifted by MVAR.
+// Glyph metrics at some coordinates, from the unvaried ones: a synthesized vertical case is shifted by MVAR, all else stays.
 pub fn materialize_glyph_metrics<'a>(
     unvaried: GlyphMetrics,
     font: &'a [u8],
@@ -168,6 +186,12 @@ pub fn materialize_glyph_metrics<'a>(
     }
 }
 
+fn adjusted(unvaried: f32, delta: f32, scale: f32) -> f32
+    ensures { λ r. ⌜ r ≡ adjusted unvaried delta scale ⌝ }
+{
+    (unvaried + delta) * scale
+}
+
 // An advance by the HVAR or VVAR at an offset.
 fn varied_advance(
     font: &[u8],
@@ -179,10 +203,14 @@ fn varied_advance(
 ) -> f32
     ensures { λ r. ⌜ r ≡ varied (now (font .entry)) xvar advance «glyph_id» (now (coords .entry)) (pos unvaried) scale ⌝ }
 {
-    ((unvaried as f32) + advance_delta(font, xvar, glyph_id, coords)) * scale
+    adjusted(
+        unvaried as f32,
+        advance_delta(font, xvar, glyph_id, coords),
+        scale,
+    )
 }
 
-// A bearing by the same.
+// A side bearing by such a table.
 fn varied_bearing(
     font: &[u8],
     xvar: u32,
@@ -193,16 +221,11 @@ fn varied_bearing(
 ) -> f32
     ensures { λ r. ⌜ r ≡ varied (now (font .entry)) xvar bearing «glyph_id» (now (coords .entry)) unvaried scale ⌝ }
 {
-    ((unvaried as f32) + sb_delta(font, xvar, glyph_id, coords)) * scale
-}
-
-fn glyf_origin(units_per_em: u16, y_max: Ordinate, tsb: f32) -> f32
-    ensures { λ r. ⌜ r ≡ glyfOrigin «units_per_em» (ordinate «y_max») tsb ⌝ }
-{
-    match y_max {
-        Ordinate::Known(y) => (y as f32) + tsb,
-        Ordinate::Missing => units_per_em as f32,
-    }
+    adjusted(
+        unvaried as f32,
+        sb_delta(font, xvar, glyph_id, coords),
+        scale,
+    )
 }
 
 fn vorg_origin(units_per_em: u16, origin: Ordinate) -> f32

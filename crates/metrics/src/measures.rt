@@ -5,14 +5,16 @@ use store::mvar::HeaderAnswer;
 use store::mvar::mvar_header;
 use store::mvar_tags::*;
 ghost use mathlib.Core.Path.{_≡_};
-ghost use lib.ListN.{drop};
+ghost use mathlib.Core.Bool.{false, not, _&&_};
+ghost use lib.Dec.{eqb};
+ghost use lib.ListN.{length, drop};
 ghost use Rattle.readers.specs.Outcome.{unless};
 ghost use Rattle.readers.specs.Reading.{run};
-ghost use Rattle.store.specs.Mvar.{headerAt};
+ghost use Rattle.store.specs.Mvar.{headerAt, headerDelta};
 ghost use Rattle.store.specs.MvarAnswers.{headerOutcome, numbersOf};
 ghost use Rattle.metrics.specs.Scale.{scaleFor};
-ghost use Rattle.metrics.specs.Measures.{asked, shiftedHorizontal, shiftedVertical, shifted, headerDelta, materializedMetrics, linearScaled, scaledMetrics};
-ghost use Rattle.metrics.specs.Structs.{metricsOf};
+ghost use Rattle.metrics.specs.Measures.{each, shift, shifted, materializedMetrics, linearScaled, scaledMetrics};
+ghost use Rattle.metrics.specs.Structs.{metricsOf, shiftVertical};
 
 // Global font metrics.
 pub struct Metrics {
@@ -92,9 +94,9 @@ pub(crate) fn scale_for(ppem: f32, units_per_em: u16) -> f32
     ppem / (units_per_em as f32)
 }
 
-// The header of the MVAR that shifts measures, or a refusal where none does: there is no MVAR, there are no coordinates, or it does not open.
+// The header of the MVAR that shifts measures. No caller hands its refusals on: where there is no MVAR, where there are no coordinates and where it does not open, nothing is shifted.
 pub(crate) fn varying(font: &[u8], mvar: u32, coords: &[i16]) -> HeaderAnswer
-    ensures { λ r. ⌜ headerOutcome r ≡ unless (asked mvar (now (coords .entry))) 1 (run (drop mvar (now (font .entry))) headerAt) ⌝ }
+    ensures { λ r. ⌜ headerOutcome r ≡ unless (not (eqb mvar 0) && not (eqb (length (now (coords .entry))) 0)) 1 (run (drop mvar (now (font .entry))) headerAt) ⌝ }
 {
     if mvar == 0 {
         return HeaderAnswer::Refused(Refusal::Absent);
@@ -105,15 +107,15 @@ pub(crate) fn varying(font: &[u8], mvar: u32, coords: &[i16]) -> HeaderAnswer
     mvar_header(font, mvar)
 }
 
-// The horizontal measures with the deltas of an MVAR whose header is known.
-fn shifted_horizontal<'a>(
+// All but the vertical measures, with the deltas of an MVAR whose header is known.
+fn shifted_always<'a>(
     unvaried: Metrics,
     font: &'a [u8],
     mvar: u32,
     header: Header,
     coords: &'a [i16],
 ) -> Metrics
-    ensures { λ r. ⌜ metricsOf r ≡ shiftedHorizontal (headerDelta (now (font .entry)) mvar (numbersOf header) (now (coords .entry))) (metricsOf unvaried) ⌝ }
+    ensures { λ r. ⌜ metricsOf r ≡ each (shift false (headerDelta (now (font .entry)) mvar (numbersOf header) (now (coords .entry)))) (metricsOf unvaried) ⌝ }
 {
     let mut m = unvaried;
     m.ascent += header.delta(font, mvar, HASC, coords);
@@ -128,14 +130,14 @@ fn shifted_horizontal<'a>(
 }
 
 // The vertical ones.
-fn shifted_vertical<'a>(
+fn shifted_vertically<'a>(
     unvaried: Metrics,
     font: &'a [u8],
     mvar: u32,
     header: Header,
     coords: &'a [i16],
 ) -> Metrics
-    ensures { λ r. ⌜ metricsOf r ≡ shiftedVertical (headerDelta (now (font .entry)) mvar (numbersOf header) (now (coords .entry))) (metricsOf unvaried) ⌝ }
+    ensures { λ r. ⌜ metricsOf r ≡ each (shiftVertical (headerDelta (now (font .entry)) mvar (numbersOf header) (now (coords .entry)))) (metricsOf unvaried) ⌝ }
 {
     let mut m = unvaried;
     m.vertical_ascent += header.delta(font, mvar, VASC, coords);
@@ -153,14 +155,14 @@ fn shifted<'a>(
 ) -> Metrics
     ensures { λ r. ⌜ metricsOf r ≡ shifted (headerDelta (now (font .entry)) mvar (numbersOf header) (now (coords .entry))) (metricsOf unvaried) ⌝ }
 {
-    let m = shifted_horizontal(unvaried, font, mvar, header, coords);
+    let m = shifted_always(unvaried, font, mvar, header, coords);
     if unvaried.has_vertical_metrics {
-        return shifted_vertical(m, font, mvar, header, coords);
+        return shifted_vertically(m, font, mvar, header, coords);
     }
     m
 }
 
-// The measures at some coordinates, from the unvaried ones and the offset of the font's MVAR, 0 for none.
+// The measures at some coordinates, from the unvaried ones, in font units, and the offset of the font's MVAR, 0 for none.
 pub fn materialize_metrics<'a>(
     unvaried: Metrics,
     font: &'a [u8],

@@ -6,10 +6,11 @@ use store::mvar_tags::HASC;
 use store::mvar_tags::HDSC;
 ghost use mathlib.Core.Path.{_≡_};
 ghost use Rattle.store.specs.MvarAnswers.{numbersOf};
-ghost use Rattle.metrics.specs.Measures.{headerDelta};
-ghost use Rattle.metrics.specs.Vertical.{hasTables, synthesizedAt, shiftedSynthesized, materializedVertical};
+ghost use Rattle.store.specs.Mvar.{headerDelta};
+ghost use Rattle.metrics.specs.Vertical.{hasVerticalMetrics, synthesizedFrom, synthesizedAt, shiftedSynthesized, materializedVertical};
 ghost use Rattle.metrics.specs.Structs.{verticalOf};
 
+// Of the tables, the offsets and counts are kept for whoever reads a glyph's unvaried numbers; VVAR's alone is used here.
 pub enum Vertical {
     VmtxGlyf {
         loca_fmt: u8,
@@ -25,7 +26,7 @@ pub enum Vertical {
         vvar: u32,
         vorg: u32,
     },
-    // Made from the font's measures.
+    // The same advance height and vertical origin for all glyphs, in font units.
     Synthesized {
         mvar: u32,
         advance: f32,
@@ -33,7 +34,7 @@ pub enum Vertical {
     },
 }
 
-// The synthesized case, with the deltas of an MVAR whose header is known. The two deltas of the advance are added first, as in swash.
+// The synthesized case, with the deltas of an MVAR whose header is known. The advance's two deltas are added to each other first, as in swash.
 fn shifted_synthesized<'a>(
     font: &'a [u8],
     mvar: u32,
@@ -75,9 +76,20 @@ fn materialize_synthesized<'a>(
 }
 
 impl Vertical {
-    // Whether the font itself has vertical metrics.
+    // What swash synthesizes from a font's measures, of which the descent is minus OpenType's descender, and the offset of its MVAR, 0 for none.
+    pub fn synthesize(mvar: u32, ascent: f32, descent: f32) -> Vertical
+        ensures { λ r. ⌜ verticalOf r ≡ synthesizedFrom mvar ascent descent ⌝ }
+    {
+        Vertical::Synthesized {
+            mvar,
+            advance: ascent + descent,
+            origin: ascent,
+        }
+    }
+
+    // Whether the font itself has vertical metrics for its glyphs.
     pub(crate) fn has_vertical_metrics(self) -> bool
-        ensures { λ r. ⌜ r ≡ hasTables (verticalOf self) ⌝ }
+        ensures { λ r. ⌜ r ≡ hasVerticalMetrics (verticalOf self) ⌝ }
     {
         match self {
             Vertical::VmtxGlyf { .. } => true,

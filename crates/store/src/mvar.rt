@@ -16,7 +16,7 @@ ghost use Rattle.readers.specs.Outcome.{valueOr, number as numberIn};
 ghost use Rattle.readers.specs.Reading.{run};
 ghost use Rattle.readers.specs.Answers.{outcomeFixed};
 ghost use Rattle.store.specs.Metric.{floatOf};
-ghost use Rattle.store.specs.Mvar.{headerAt, find, tagDelta, mvarDelta, noHeader, opened, noMvar, openedDelta};
+ghost use Rattle.store.specs.Mvar.{headerAt, find, tagDelta, mvarDelta, headerDelta, noHeader, opened, noMvar, openedDelta};
 ghost use Rattle.store.specs.MvarAnswers.{headerOf, numbersOf, headerOutcome, foundOutcome, openedOf, liesAt};
 
 // The numbers of the header.
@@ -167,9 +167,9 @@ pub fn mvar_delta<'a>(font: &'a [u8], mvar: u32, tag: u32, coords: &'a [i16]) ->
 }
 
 impl Header {
-    // The delta of a tag as a float, 0.0 on any refusal, by the MVAR at an offset of the font that has this header: for one who asks for many tags and holds no slice.
+    // The delta of a tag as a float, 0.0 on any refusal, by the MVAR at an offset of the font, whatever numbers the header holds: for one who asks for many tags and holds no slice.
     pub fn delta<'a>(self, font: &'a [u8], mvar: u32, tag: u32, coords: &'a [i16]) -> f32
-        ensures { λ r. ⌜ r ≡ floatOf (run (drop mvar (now (font .entry))) (tagDelta (numbersOf self) (now (coords .entry)) tag)) ⌝ }
+        ensures { λ r. ⌜ r ≡ headerDelta (now (font .entry)) mvar (numbersOf self) (now (coords .entry)) tag ⌝ }
     {
         let part = part_from(font, mvar);
         let rec_size = self.rec_size;

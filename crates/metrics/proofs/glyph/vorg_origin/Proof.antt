@@ -1,6 +1,5 @@
 -- `metrics::glyph::vorg_origin` meets its contract. Assumes nothing.
-use mathlib.Core.Path.{ap, _∙_}
-use mathlib.Core.Path.{refl}
+use mathlib.Core.Path.{ap, _∙_, refl}
 use mir.Syntax.{w16}
 use mir.ValLaws.{toZ-ofZ}
 use borrow.Author.Needs.{needs}

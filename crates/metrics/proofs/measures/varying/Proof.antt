@@ -1,6 +1,5 @@
 -- `metrics::measures::varying` meets its contract. Assumes nothing.
 use mathlib.Core.Path.{_∙_}
-use mathlib.Core.Path.{_∙_}
 use lib.ListN.{drop}
 use borrow.Author.Needs.{needs}
 use Rattle.readers.specs.Reading.{run}

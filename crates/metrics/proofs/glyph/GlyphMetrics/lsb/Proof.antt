@@ -9,7 +9,7 @@ varied-bearing-requires : tie.Need-varied-bearing-requires
 varied-bearing-requires c κs = search needs
 
 returns : tie.Need-returns
-returns c = rw (toZ-ofZ w16 _ (c .before .before .fits .bearing)) at (c .varied-bearing .ensures)
+returns c = rw (toZ-ofZ w16 _ (c .before .before .fits .unvaried)) at (c .varied-bearing .ensures)
 
 pub lsb-spec : {M : Type 1} → statement M
 lsb-spec = tie.close (tie.spec varied-bearing-requires returns)

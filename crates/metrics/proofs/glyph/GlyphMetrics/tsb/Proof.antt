@@ -23,10 +23,10 @@ enum-told : tie.Need-enum-told
 enum-told c = search needs
 
 returns : tie.Need-returns
-returns c = rw (c .before .before .v .given .1) (rw (toZ-ofZ w16 _ (c .before .before .before .before .before .fits .bearing)) at (c .varied-bearing .ensures))
+returns c = rw (c .before .before .v .given .1) (rw (toZ-ofZ w16 _ (c .before .before .before .before .before .fits .unvaried)) at (c .varied-bearing .ensures))
 
 returns-2 : tie.Need-returns-2
-returns-2 c = rw (c .before .before .v2 .given .1) (rw (toZ-ofZ w16 _ (c .before .before .before .before .before .fits .bearing)) at (c .varied-bearing2 .ensures))
+returns-2 c = rw (c .before .before .v2 .given .1) (rw (toZ-ofZ w16 _ (c .before .before .before .before .before .fits .unvaried)) at (c .varied-bearing2 .ensures))
 
 returns-3 : tie.Need-returns-3
 returns-3 c = rw (c .enum-told .given .1, zero-float) refl

@@ -9,9 +9,6 @@ use Rattle.metrics.proofs.glyph.GlyphMetrics.vertical_origin.Tie as tie
 enum-told : tie.Need-enum-told
 enum-told c = search needs
 
-tsb-requires : tie.Need-tsb-requires
-tsb-requires c κs = search needs
-
 glyf-origin-requires : tie.Need-glyf-origin-requires
 glyf-origin-requires c κs = search needs
 
@@ -26,8 +23,9 @@ enum-known-v c = search needs
 
 returns : tie.Need-returns
 returns c =
-    let bearing = toZ-ofZ w16 _ (c .before .before .before .before .before .fits .bearing) in
-    rw (c .glyf-origin .ensures, c .before .tsb .ensures, bearing, c .before .before .enum-told .given .1) refl
+    let a = c .before .before .before .before in
+    let unvaried = toZ-ofZ w16 _ (a .fits .unvaried) in
+    rw (c .glyf-origin .ensures, unvaried, c .before .enum-told .given .1) refl
 
 returns-2 : tie.Need-returns-2
 returns-2 c = rw (c .before .enum-told2 .given .1, c .vorg-origin .ensures) refl
@@ -40,7 +38,6 @@ vertical-origin-spec =
     tie.close
     (tie.spec
     enum-told
-    tsb-requires
     glyf-origin-requires
     enum-told-2
     vorg-origin-requires

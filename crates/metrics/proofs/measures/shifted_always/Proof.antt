@@ -1,8 +1,8 @@
--- `metrics::measures::shifted_horizontal` meets its contract. Assumes nothing.
+-- `metrics::measures::shifted_always` meets its contract. Assumes nothing.
 use mathlib.Core.Path.{refl}
 use borrow.Author.Needs.{needs}
-use Rattle.metrics.proofs.measures.shifted_horizontal.Statement.{statement}
-use Rattle.metrics.proofs.measures.shifted_horizontal.Tie as tie
+use Rattle.metrics.proofs.measures.shifted_always.Statement.{statement}
+use Rattle.metrics.proofs.measures.shifted_always.Tie as tie
 
 delta-requires : tie.Need-delta-requires
 delta-requires c κs = search needs
@@ -40,8 +40,8 @@ returns c =
     let d1 = d2 .before .before in
     rw (d5 .delta5 .ensures, d6 .delta6 .ensures, d7 .delta7 .ensures, d8 .delta8 .ensures) (rw (d1 .delta .ensures, d2 .delta2 .ensures, d3 .delta3 .ensures, d4 .delta4 .ensures) refl)
 
-pub shifted-horizontal-spec : {M : Type 1} → statement M
-shifted-horizontal-spec =
+pub shifted-always-spec : {M : Type 1} → statement M
+shifted-always-spec =
     tie.close
     (tie.spec
     delta-requires

@@ -1,8 +1,8 @@
--- `metrics::measures::shifted_vertical` meets its contract. Assumes nothing.
+-- `metrics::measures::shifted_vertically` meets its contract. Assumes nothing.
 use mathlib.Core.Path.{refl}
 use borrow.Author.Needs.{needs}
-use Rattle.metrics.proofs.measures.shifted_vertical.Statement.{statement}
-use Rattle.metrics.proofs.measures.shifted_vertical.Tie as tie
+use Rattle.metrics.proofs.measures.shifted_vertically.Statement.{statement}
+use Rattle.metrics.proofs.measures.shifted_vertically.Tie as tie
 
 delta-requires : tie.Need-delta-requires
 delta-requires c κs = search needs
@@ -20,6 +20,6 @@ returns c =
     let d1 = d2 .before .before in
     rw (d1 .delta .ensures, d2 .delta2 .ensures, d3 .delta3 .ensures) refl
 
-pub shifted-vertical-spec : {M : Type 1} → statement M
-shifted-vertical-spec =
+pub shifted-vertically-spec : {M : Type 1} → statement M
+shifted-vertically-spec =
     tie.close (tie.spec delta-requires delta-requires-2 delta-requires-3 returns)

@@ -1,12 +1,11 @@
 // A glyph's advances, bearings and vertical origin.
 use crate::measures::scale_for;
 use crate::vertical::Vertical;
+use numbers::as_i16;
 use store::metric::advance_delta;
 use store::metric::sb_delta;
 ghost use mathlib.Core.Path.{_≡_};
 ghost use lib.IntN.{pos};
-ghost use mir.Syntax.{w16};
-ghost use mir.Val.{toZ};
 ghost use Rattle.store.specs.Metric.{advance, bearing};
 ghost use Rattle.metrics.specs.Scale.{adjusted};
 ghost use Rattle.metrics.specs.Vertical.{hasVerticalMetrics};
@@ -233,13 +232,6 @@ fn vorg_origin(units_per_em: u16, origin: Ordinate) -> f32
 {
     match origin {
         Ordinate::Known(y) => y as f32,
-        Ordinate::Missing => signed(units_per_em) as f32,
+        Ordinate::Missing => as_i16(units_per_em) as f32,
     }
-}
-
-// n as a signed 16-bit number, as Rust's cast has it.
-fn signed(n: u16) -> i16
-    ensures { λ r. ⌜ r ≡ toZ w16 n ⌝ }
-{
-    if n < 0x8000 { n as i16 } else { !((!n) as i16) }
 }

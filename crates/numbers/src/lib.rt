@@ -21,11 +21,7 @@ impl F2Dot14 {
     pub fn from_bits(n: u16) -> F2Dot14
         ensures { λ r. ⌜ r .0 ≡ toZ w16 n ⌝ }
     {
-        if n < 0x8000 {
-            F2Dot14(n as i16)
-        } else {
-            F2Dot14(!((!n) as i16))
-        }
+        F2Dot14(as_i16(n))
     }
 
     pub fn to_bits(self) -> u16
@@ -217,6 +213,13 @@ fn bits_of(x: i32) -> u32
     ensures { λ r. ⌜ r ≡ modZ x 0x1_0000_0000 ⌝ }
 {
     if x >= 0 { x as u32 } else { !((!x) as u32) }
+}
+
+// The number whose bits, in two's complement, are n: Rust's cast.
+pub fn as_i16(n: u16) -> i16
+    ensures { λ r. ⌜ r ≡ toZ w16 n ⌝ }
+{
+    if n < 0x8000 { n as i16 } else { !((!n) as i16) }
 }
 
 // a·b over c.

@@ -1,6 +1,7 @@
 // Refusals, and bounded big-endian reads of a font (swash's parse.rs). Each answers what its definition says, for every position.
 use numbers::F2Dot14;
 use numbers::Fixed;
+use numbers::as_i16;
 ghost use mathlib.Core.Path.{_≡_};
 ghost use Prim.Native.Nat.{_<_};
 ghost use lib.ListN.{length, getD};
@@ -143,13 +144,7 @@ pub fn i16_at(font: &[u8], at: usize) -> Signed
     ensures { λ r. ⌜ outcomeI16 r ≡ run (now (font .entry)) (signedAt w16 at) ⌝ }
 {
     match u16_at(font, at) {
-        Half::Value(x) => {
-            if x < 0x8000 {
-                Signed::Value(x as i16)
-            } else {
-                Signed::Value(!((!x) as i16))
-            }
-        }
+        Half::Value(x) => Signed::Value(as_i16(x)),
         Half::Refused(n) => Signed::Refused(n),
     }
 }

@@ -16,8 +16,8 @@ int-to-float-result c = search needs
 enum-told : tie.Need-enum-told
 enum-told c = search needs
 
-signed-requires : tie.Need-signed-requires
-signed-requires c κs = search needs
+as-i16-requires : tie.Need-as-i16-requires
+as-i16-requires c κs = search needs
 
 int-to-float-result-2 : tie.Need-int-to-float-result-2
 int-to-float-result-2 c = search needs
@@ -27,7 +27,7 @@ returns c = rw (c .before .before .origin .given .1, toZ-ofZ w16 _ (record { sfi
 
 returns-2 : tie.Need-returns-2
 returns-2 c =
-    let signed = c .before .signed in
+    let signed = c .before .as-i16 in
     rw (c .before .before .enum-told .given .1) (ap float (toZ-ofZ w16 (signed .result) (record { sfits = signed .ok }) ∙ signed .ensures))
 
 pub vorg-origin-spec : {M : Type 1} → statement M
@@ -37,7 +37,7 @@ vorg-origin-spec =
     enum-known-origin
     int-to-float-result
     enum-told
-    signed-requires
+    as-i16-requires
     int-to-float-result-2
     returns
     returns-2)

@@ -1,19 +1,22 @@
 //! Cases of what was ported, answered by swash itself. README.md beside this folder says how to use it.
 
 mod axes;
+mod metrics;
 mod numbers;
 mod random;
 mod store;
 mod swash;
 mod text;
 
+use std::cell::Cell;
 use std::collections::BTreeMap;
 use std::fs::File;
 use std::io::{self, BufRead, BufReader, BufWriter, Write};
+use std::panic::{catch_unwind, resume_unwind};
 use std::process::ExitCode;
 
 const USAGE: &str = "\
-oracle cases SEED COUNT SUBJECT      write COUNT cases of numbers, axes, store or all
+oracle cases SEED COUNT SUBJECT      write COUNT cases of numbers, axes, store, metrics or all
 oracle sample SEED                   write the cases of the stored sample
 oracle answers                       answer the cases on standard input
 oracle stops                         of the cases on standard input write those on which the Rust stops
@@ -29,15 +32,24 @@ pub enum Rust {
     None,
     /// panics, by an overflow check
     Stops,
-    /// has no counterpart: a list too short, lists of different length, an outer index over 16 bits
+    /// has no counterpart: a list too short, lists of different length, an outer index over 16 bits, a
+    /// measure that is no 16-bit integer
     Silent,
 }
 
 impl Rust {
     /// What comes of asking the Rust.
     pub fn of(asked: impl FnOnce() -> Rust + std::panic::UnwindSafe) -> Rust {
-        std::panic::catch_unwind(asked).unwrap_or(Rust::Stops)
+        ASKED.set(true);
+        let done = catch_unwind(asked).unwrap_or(Rust::Stops);
+        ASKED.set(false);
+        done
     }
+}
+
+thread_local! {
+    /// whether the Rust is being asked: there a panic is an answer, elsewhere a fault of the oracle's
+    static ASKED: Cell<bool> = const { Cell::new(false) };
 }
 
 /// What is to be answered to a case.
@@ -73,15 +85,24 @@ impl Expected {
 /// A line of this many bytes, or more, is no case.
 const LINE: usize = 65536;
 
-/// None where the line is no case.
+/// None where the line is no case. Where an assertion of the model fails, its case is named.
 fn expected(line: &str) -> Option<Expected> {
     if line.len() >= LINE {
         return None;
     }
+    catch_unwind(|| of_subjects(line)).unwrap_or_else(|fault| {
+        eprintln!("oracle: at the case: {line}");
+        resume_unwind(fault)
+    })
+}
+
+/// The subjects are asked in turn.
+fn of_subjects(line: &str) -> Option<Expected> {
     let number = numbers::parse(line).map(|case| case.expected());
     number
         .or_else(|| axes::parse(line).map(|case| case.expected()))
         .or_else(|| store::parse(line).map(|case| case.expected()))
+        .or_else(|| metrics::parse(line).map(|case| case.expected()))
 }
 
 /// What stands for a line that is no case.
@@ -186,9 +207,14 @@ const COLUMNS: [&str; 6] = [
 
 /// Prints the table, and answers whether no row has a difference.
 fn table(rows: &BTreeMap<&str, Row>) -> bool {
+    // the first two columns share their width: a long name has a short count
     let print = |name: &str, cells: [String; 6]| {
-        let cells: String = cells.iter().map(|cell| format!("{cell:>14}")).collect();
-        println!("{name:<18}{cells}");
+        let first = format!("{:>1$}", cells[0], 32 - name.len());
+        let cells: String = cells[1..]
+            .iter()
+            .map(|cell| format!("{cell:>14}"))
+            .collect();
+        println!("{name}{first}{cells}");
     };
     let mut total = Row::default();
     print("function", COLUMNS.map(str::to_string));
@@ -228,13 +254,15 @@ fn cases(seed: &str, count: &str, subject: &str) -> Option<Box<dyn Iterator<Item
     let numbers = numbers::cases::Cases::new(seed);
     let mut axes = axes::cases::Cases::new(seed);
     let mut store = store::cases::Cases::new(seed);
+    let mut metrics = metrics::cases::Cases::new(seed);
     let all: Box<dyn Iterator<Item = String>> = match subject {
         "numbers" => Box::new(numbers),
         "axes" => Box::new(axes),
         "store" => Box::new(store),
+        "metrics" => Box::new(metrics),
         "all" => Box::new(
             numbers
-                .flat_map(move |number| [Some(number), axes.next(), store.next()])
+                .flat_map(move |number| [Some(number), axes.next(), store.next(), metrics.next()])
                 .flatten(),
         ),
         _ => return None,
@@ -242,7 +270,7 @@ fn cases(seed: &str, count: &str, subject: &str) -> Option<Box<dyn Iterator<Item
     Some(Box::new(all.take(count.parse().ok()?)))
 }
 
-/// How many lines of each subject the stored sample has.
+/// How many lines of each subject the stored sample has; of the metrics it has half as many.
 const SAMPLE: usize = 3000;
 
 fn run(words: &[&str]) -> Option<bool> {
@@ -253,6 +281,7 @@ fn run(words: &[&str]) -> Option<bool> {
             write_all(numbers::cases::sample(seed, SAMPLE).into_iter());
             write_all(axes::cases::sample(seed, SAMPLE).into_iter());
             write_all(store::cases::sample(seed, SAMPLE).into_iter());
+            write_all(metrics::cases::sample(seed, SAMPLE / 2).into_iter());
         }
         ["answers"] => {
             let answer = |line: String| {
@@ -278,16 +307,21 @@ fn run(words: &[&str]) -> Option<bool> {
 }
 
 fn main() -> ExitCode {
-    // A stop of the Rust is an answer here, not an accident.
-    std::panic::set_hook(Box::new(|_| ()));
+    // A stop of the Rust is an answer here, not an accident; any other is a fault of the oracle's.
+    std::panic::set_hook(Box::new(|fault| {
+        if !ASKED.get() {
+            eprintln!("oracle: a fault of its own: {fault}");
+        }
+    }));
     let words: Vec<String> = std::env::args().skip(1).collect();
     let words: Vec<&str> = words.iter().map(String::as_str).collect();
-    match run(&words) {
-        Some(true) => ExitCode::SUCCESS,
-        Some(false) => ExitCode::FAILURE,
-        None => {
+    match catch_unwind(|| run(&words)) {
+        Ok(Some(true)) => ExitCode::SUCCESS,
+        Ok(Some(false)) => ExitCode::FAILURE,
+        Ok(None) => {
             eprint!("{USAGE}");
             ExitCode::from(2)
         }
+        Err(_) => ExitCode::from(2),
     }
 }

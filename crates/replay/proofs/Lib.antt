@@ -1,3 +1,2 @@
 -- The laws that the proofs of `replay` share.
-pub mod Digits
 pub mod Texts

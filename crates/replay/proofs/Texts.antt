@@ -9,7 +9,7 @@ use lib.Dec.{eqb}
 use borrow.Author.Tests.{eq-eqb, ne-eqb}
 use lib.ListN.{length, getD, take, drop, length-drop}
 use lib.Seq.{drop-cons, drop-length, take-suc, append-snoc, take-all}
-use Rattle.replay.specs.Words.{beforeBlank, afterBlanks, wordCount, sameText}
+use Rattle.replay.specs.Words.{beforeBlank, afterBlanks, wordOf, wordCount, sameText, placeFrom}
 
 module _ (line : List ℕ) (i : ℕ) (within : i < length line) where
   -- at a blank
@@ -77,3 +77,20 @@ module _ (a b : List ℕ) (i : ℕ) (in-a : i < length a) (in-b : i < length b) 
 
 pub rest-is : (line : List ℕ) (from : ℕ) → take (length line - from) (drop from line) ≡ drop from line
 rest-is line from = take-all (length line - from) (drop from line) (omega (arith, length-drop from line))
+
+-- The words of a list from word k on, of n: one is there.
+module _ (n k : ℕ) (text list : List ℕ) (within : k < n) where
+  one-left : n - k ≡ suc (n - suc k)
+  one-left = omega arith
+
+  pub found : sameText text (wordOf k list) ≡ true → k ≡ placeFrom (n - k) k text list
+  unfolding placeFrom
+  found is = rw (one-left, is)
+
+  pub not-found : sameText text (wordOf k list) ≡ false → placeFrom (n - (k + 1)) (k + 1) text list ≡ placeFrom (n - k) k text list
+  unfolding placeFrom
+  not-found is-not = rw (add-one k, one-left, is-not)
+
+pub none-of-them : (n k : ℕ) (text list : List ℕ) → n ≤ k → k ≡ placeFrom (n - k) k text list
+unfolding placeFrom
+none-of-them n k text list h = let e : n - k ≡ 0 = omega arith in rw e

@@ -29,3 +29,12 @@ sameText [] [] = true
 sameText [] (y ∷ ys) = false
 sameText (x ∷ xs) [] = false
 sameText (x ∷ xs) (y ∷ ys) = eqb x y && sameText xs ys
+
+-- The place of a text among the n words of a list from word k on; k + n where it is none of them.
+unfoldable pub placeFrom : ℕ → ℕ → List ℕ → List ℕ → ℕ
+placeFrom zero k text list = k
+placeFrom (suc n) k text list = cond (sameText text (wordOf k list)) k (placeFrom n (suc k) text list)
+
+-- Which word of a list a text is, counted from 0; where it is none, how many there are.
+unfoldable pub placeAmong : List ℕ → List ℕ → ℕ
+placeAmong text list = placeFrom (wordCount list) 0 text list

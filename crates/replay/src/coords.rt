@@ -1,7 +1,6 @@
 // Cases of normalising and of coordinate lists. None has an avar.
 use crate::Buffer;
 use crate::parse;
-use crate::parse::Halves;
 use crate::parse::Parsed;
 use crate::parse::Size;
 use crate::print;
@@ -13,7 +12,6 @@ use axes::variation;
 use numbers::F2Dot14;
 use numbers::Fixed;
 use readers::F2Dot14Answer;
-use readers::Half;
 
 // min, default, max and a value
 pub(crate) fn put_coord(line: &[u8], out: &mut Buffer, waiting: usize) -> usize {
@@ -93,18 +91,18 @@ fn put_coords(
     waiting: usize,
 ) -> usize {
     let mut list = parse::empty_halves(32767);
-    let answer = of_settings(table, tags, values, &mut list, room);
+    let n = parse::at_most_256(room);
+    let answer = variation::normalized_coords(
+        Fvar::new(table),
+        table,
+        b"",
+        0,
+        tags,
+        values,
+        &mut list[0..n],
+    );
     let at = print::put_count(out, waiting, answer);
-    put_list(&list, room, out, at)
-}
-
-// Writes to a list's first elements alone.
-fn of_settings(table: &[u8], tags: &[u32], values: &[f32], list: &mut [i16], room: usize) -> Half {
-    let fvar = Fvar::new(table);
-    if room < list.len() {
-        return variation::normalized_coords(fvar, table, b"", 0, tags, values, &mut list[0..room]);
-    }
-    variation::normalized_coords(fvar, table, b"", 0, tags, values, list)
+    put_list(parse::first_halves(&list, n), out, at)
 }
 
 pub(crate) fn put_instance(
@@ -115,32 +113,29 @@ pub(crate) fn put_instance(
     waiting: usize,
 ) -> usize {
     let mut list = parse::empty_halves(32767);
-    let answer = of_instance(table, index, &mut list, room);
+    let n = parse::at_most_256(room);
+    let answer = variation::instance_coords(
+        Fvar::new(table),
+        table,
+        b"",
+        0,
+        index,
+        &mut list[0..n],
+    );
     let at = print::put_count(out, waiting, answer);
-    put_list(&list, room, out, at)
+    put_list(parse::first_halves(&list, n), out, at)
 }
 
-// Writes to a list's first elements alone.
-fn of_instance(table: &[u8], index: u16, list: &mut [i16], room: usize) -> Half {
-    let fvar = Fvar::new(table);
-    if room < list.len() {
-        return variation::instance_coords(fvar, table, b"", 0, index, &mut list[0..room]);
-    }
-    variation::instance_coords(fvar, table, b"", 0, index, list)
-}
-
-// A blank, and a list's first elements.
-fn put_list(list: &Halves, room: usize, out: &mut Buffer, waiting: usize) -> usize {
+// A blank, and a list's elements.
+fn put_list(list: &[i16], out: &mut Buffer, waiting: usize) -> usize {
     let mut at = print::put(out, waiting, b' ');
-    if room == 0 {
+    if list.len() == 0 {
         return print::put(out, at, b'-');
     }
     let mut i = 0;
-    while i < 256 {
-        if i < room {
-            at = print::put_comma(out, at, i);
-            at = print::put_half(out, at, F2Dot14(list[i]));
-        }
+    while i < list.len() {
+        at = print::put_comma(out, at, i);
+        at = print::put_half(out, at, F2Dot14(list[i]));
         i += 1;
     }
     at

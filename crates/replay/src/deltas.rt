@@ -7,6 +7,7 @@ use crate::parse::Size;
 use crate::print;
 use crate::words::count;
 use crate::words::same;
+use crate::words::which;
 use crate::words::word;
 use readers::FixedAnswer;
 use store::item;
@@ -42,25 +43,27 @@ fn put_header(answer: HeaderAnswer, out: &mut Buffer, waiting: usize) -> usize {
 }
 
 fn put_numbers(header: Header, out: &mut Buffer, waiting: usize) -> usize {
-    let mut at = print::put_text(out, waiting, b"value");
-    at = print::put_next(out, at, header.rec_size as u64);
-    at = print::put_next(out, at, header.rec_count as u64);
-    print::put_next(out, at, header.store as u64)
+    let numbers = [
+        header.rec_size as u64,
+        header.rec_count as u64,
+        header.store as u64,
+    ];
+    print::put_values(out, waiting, &numbers)
 }
 
 // The coordinates are a case's last word; opening an MVAR has none.
 pub(crate) fn of_line(line: &[u8]) -> Answer {
-    let n = count(line);
-    if n == 3 {
-        if same(word(line, 0), b"mvar_new") {
-            return of_font(line, b"-");
-        }
+    match count(line) {
+        3 => of_opening(line),
+        5 => of_font(line, word(line, 4)),
+        6 => of_font(line, word(line, 5)),
+        _ => Answer::NoCase,
     }
-    if n == 5 {
-        return of_font(line, word(line, 4));
-    }
-    if n == 6 {
-        return of_font(line, word(line, 5));
+}
+
+fn of_opening(line: &[u8]) -> Answer {
+    if same(word(line, 0), b"mvar_new") {
+        return of_font(line, b"-");
     }
     Answer::NoCase
 }
@@ -86,21 +89,19 @@ fn of_font(line: &[u8], coords: &[u8]) -> Answer {
 }
 
 fn of_offset<'a>(line: &[u8], font: &'a [u8], offset: u32, coords: &'a [i16]) -> Answer {
-    let name = word(line, 0);
-    let n = count(line);
-    if n == 3 {
-        return Answer::Opened(mvar::mvar_header(font, offset));
+    match count(line) {
+        3 => Answer::Opened(mvar::mvar_header(font, offset)),
+        6 => of_item(line, font, offset, coords),
+        _ => of_name(word(line, 0), font, offset, word(line, 3), coords),
     }
-    if n == 6 {
-        return of_item(line, font, offset, coords);
+}
+
+fn of_name<'a>(name: &[u8], font: &'a [u8], offset: u32, text: &[u8], coords: &'a [i16]) -> Answer {
+    match which(name, b"mvar_fixed mvar_delta") {
+        0 => of_tag(font, offset, text, coords),
+        1 => as_float(of_tag(font, offset, text, coords)),
+        _ => of_glyph(name, font, offset, text, coords),
     }
-    if same(name, b"mvar_fixed") {
-        return of_tag(font, offset, word(line, 3), coords);
-    }
-    if same(name, b"mvar_delta") {
-        return as_float(of_tag(font, offset, word(line, 3), coords));
-    }
-    of_glyph(name, font, offset, word(line, 3), coords)
 }
 
 fn of_item(line: &[u8], font: &[u8], store: u32, coords: &[i16]) -> Answer {
@@ -132,20 +133,18 @@ fn as_float(answer: Answer) -> Answer {
 }
 
 fn of_glyph(name: &[u8], font: &[u8], base: u32, text: &[u8], coords: &[i16]) -> Answer {
-    let Place::Value(glyph) = parse::index(text) else {
-        return Answer::NoCase;
-    };
-    if same(name, b"advance_fixed") {
-        return Answer::Delta(metric::advance_delta_fixed(font, base, glyph, coords));
+    match parse::index(text) {
+        Place::Value(glyph) => glyph_delta(name, font, base, glyph, coords),
+        Place::Not => Answer::NoCase,
     }
-    if same(name, b"sb_fixed") {
-        return Answer::Delta(metric::sb_delta_fixed(font, base, glyph, coords));
+}
+
+fn glyph_delta(name: &[u8], font: &[u8], base: u32, glyph: u16, coords: &[i16]) -> Answer {
+    match which(name, b"advance_fixed sb_fixed advance_delta sb_delta") {
+        0 => Answer::Delta(metric::advance_delta_fixed(font, base, glyph, coords)),
+        1 => Answer::Delta(metric::sb_delta_fixed(font, base, glyph, coords)),
+        2 => Answer::Float(metric::advance_delta(font, base, glyph, coords)),
+        3 => Answer::Float(metric::sb_delta(font, base, glyph, coords)),
+        _ => Answer::NoCase,
     }
-    if same(name, b"advance_delta") {
-        return Answer::Float(metric::advance_delta(font, base, glyph, coords));
-    }
-    if same(name, b"sb_delta") {
-        return Answer::Float(metric::sb_delta(font, base, glyph, coords));
-    }
-    Answer::NoCase
 }

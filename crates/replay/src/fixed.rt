@@ -6,6 +6,7 @@ use crate::parse::Place;
 use crate::print;
 use crate::words::count;
 use crate::words::same;
+use crate::words::which;
 use crate::words::word;
 use numbers::F2Dot14;
 use numbers::Fixed;
@@ -49,65 +50,53 @@ fn of_one(name: &[u8], a: &[u8]) -> Answer {
             Parsed::Not => Answer::NoCase,
         };
     }
-    let Parsed::Value(n) = parse::integer(a) else {
-        return Answer::NoCase;
-    };
+    match parse::integer(a) {
+        Parsed::Value(n) => of_number(name, n),
+        Parsed::Not => Answer::NoCase,
+    }
+}
+
+fn of_number(name: &[u8], n: u32) -> Answer {
     let x = Fixed::from_bits(n);
-    if same(name, b"neg") {
-        return number(x.neg());
+    match which(name, b"neg from_i32 from_f2dot14 to_f2dot14 to_f32") {
+        0 => number(x.neg()),
+        1 => number(Fixed::from_i32(x.0)),
+        2 => widened(n),
+        3 => Answer::Integer(print::half_bits(x.to_f2dot14())),
+        4 => Answer::Float(x.to_f32()),
+        _ => Answer::NoCase,
     }
-    if same(name, b"from_i32") {
-        return number(Fixed::from_i32(x.0));
-    }
-    if same(name, b"from_f2dot14") {
-        return widened(n);
-    }
-    if same(name, b"to_f2dot14") {
-        return Answer::Integer(print::half_bits(x.to_f2dot14()));
-    }
-    if same(name, b"to_f32") {
-        return Answer::Float(x.to_f32());
-    }
-    Answer::NoCase
 }
 
 fn of_two(name: &[u8], a: &[u8], b: &[u8]) -> Answer {
-    if same(name, b"from_f32_block") {
-        return block(a, b, true);
+    match which(name, b"from_f32_block to_f32_block") {
+        0 => block(a, b, true),
+        1 => block(a, b, false),
+        _ => of_pair(name, a, b),
     }
-    if same(name, b"to_f32_block") {
-        return block(a, b, false);
-    }
+}
+
+fn of_pair(name: &[u8], a: &[u8], b: &[u8]) -> Answer {
     let Parsed::Value(m) = parse::integer(a) else {
         return Answer::NoCase;
     };
     let Parsed::Value(n) = parse::integer(b) else {
         return Answer::NoCase;
     };
-    let x = Fixed::from_bits(m);
-    let y = Fixed::from_bits(n);
-    if same(name, b"add") {
-        return number(x.add(y));
+    of_numbers(name, Fixed::from_bits(m), Fixed::from_bits(n))
+}
+
+fn of_numbers(name: &[u8], x: Fixed, y: Fixed) -> Answer {
+    match which(name, b"add sub lt min max mul div") {
+        0 => number(x.add(y)),
+        1 => number(x.sub(y)),
+        2 => Answer::Integer(if x.lt(y) { 1 } else { 0 }),
+        3 => number(x.min(y)),
+        4 => number(x.max(y)),
+        5 => number(x.mul(y)),
+        6 => number(x.div(y)),
+        _ => Answer::NoCase,
     }
-    if same(name, b"sub") {
-        return number(x.sub(y));
-    }
-    if same(name, b"lt") {
-        return Answer::Integer(if x.lt(y) { 1 } else { 0 });
-    }
-    if same(name, b"min") {
-        return number(x.min(y));
-    }
-    if same(name, b"max") {
-        return number(x.max(y));
-    }
-    if same(name, b"mul") {
-        return number(x.mul(y));
-    }
-    if same(name, b"div") {
-        return number(x.div(y));
-    }
-    Answer::NoCase
 }
 
 fn of_three(name: &[u8], a: &[u8], b: &[u8], c: &[u8]) -> Answer {

@@ -2,13 +2,13 @@
 use crate::Buffer;
 use crate::coords;
 use crate::parse;
-use crate::parse::Floats;
 use crate::parse::Parsed;
 use crate::parse::Place;
 use crate::parse::Size;
 use crate::print;
 use crate::words::count;
 use crate::words::same;
+use crate::words::which;
 use crate::words::word;
 use axes::axis::VarAxis;
 use axes::fvar::AxisAnswer;
@@ -16,7 +16,6 @@ use axes::fvar::Fvar;
 use axes::fvar::InstanceAnswer;
 use axes::fvar::NameId;
 use axes::fvar::VarInstance;
-use readers::Half;
 
 pub(crate) fn put_line(line: &[u8], out: &mut Buffer, waiting: usize) -> usize {
     if same(word(line, 0), b"normalized_coord") {
@@ -31,50 +30,49 @@ pub(crate) fn put_line(line: &[u8], out: &mut Buffer, waiting: usize) -> usize {
 
 fn put_case(table: &[u8], line: &[u8], out: &mut Buffer, waiting: usize) -> usize {
     let name = word(line, 0);
-    let n = count(line);
-    if n == 2 {
-        if same(name, b"header") {
-            return put_header(Fvar::new(table), out, waiting);
-        }
+    match count(line) {
+        2 => put_of_none(name, table, out, waiting),
+        3 => put_of_one(name, table, word(line, 2), out, waiting),
+        4 => put_of_two(name, table, word(line, 2), word(line, 3), out, waiting),
+        5 => put_of_three(name, table, line, out, waiting),
+        _ => print::put(out, waiting, b'?'),
     }
-    if n == 3 {
-        return put_of_one(name, table, word(line, 2), out, waiting);
-    }
-    if n == 4 {
-        return put_of_two(name, table, word(line, 2), word(line, 3), out, waiting);
-    }
-    if n == 5 {
-        if same(name, b"normalized_coords") {
-            return coords::put_settings(table, line, out, waiting);
-        }
+}
+
+fn put_of_none(name: &[u8], table: &[u8], out: &mut Buffer, waiting: usize) -> usize {
+    if same(name, b"header") {
+        return put_header(Fvar::new(table), out, waiting);
     }
     print::put(out, waiting, b'?')
 }
 
 fn put_of_one(name: &[u8], table: &[u8], a: &[u8], out: &mut Buffer, waiting: usize) -> usize {
-    if same(name, b"get_axis_by_tag") {
-        return put_by_tag(table, a, true, out, waiting);
+    match which(name, b"get_axis_by_tag find_by_tag") {
+        0 => put_by_tag(table, a, true, out, waiting),
+        1 => put_by_tag(table, a, false, out, waiting),
+        _ => put_of_index(name, table, a, out, waiting),
     }
-    if same(name, b"find_by_tag") {
-        return put_by_tag(table, a, false, out, waiting);
+}
+
+fn put_of_index(name: &[u8], table: &[u8], a: &[u8], out: &mut Buffer, waiting: usize) -> usize {
+    match parse::index(a) {
+        Place::Value(i) => put_at(name, table, i, out, waiting),
+        Place::Not => print::put(out, waiting, b'?'),
     }
-    let Place::Value(i) = parse::index(a) else {
-        return print::put(out, waiting, b'?');
-    };
+}
+
+fn put_at(name: &[u8], table: &[u8], i: u16, out: &mut Buffer, waiting: usize) -> usize {
     let fvar = Fvar::new(table);
-    if same(name, b"get_axis") {
-        return put_axis(fvar.get_axis(table, i), out, waiting);
+    match which(
+        name,
+        b"get_axis get_instance instance_values instance_value",
+    ) {
+        0 => put_axis(fvar.get_axis(table, i), out, waiting),
+        1 => put_instance(fvar.get_instance(table, i), out, waiting),
+        2 => put_values(table, i, out, waiting),
+        3 => print::put_fixed(out, waiting, axes::fvar::instance_value(table, i)),
+        _ => print::put(out, waiting, b'?'),
     }
-    if same(name, b"get_instance") {
-        return put_instance(fvar.get_instance(table, i), out, waiting);
-    }
-    if same(name, b"instance_values") {
-        return put_values(table, i, out, waiting);
-    }
-    if same(name, b"instance_value") {
-        return print::put_fixed(out, waiting, axes::fvar::instance_value(table, i));
-    }
-    print::put(out, waiting, b'?')
 }
 
 fn put_of_two(
@@ -91,22 +89,40 @@ fn put_of_two(
     let Size::Value(room) = parse::room(b) else {
         return print::put(out, waiting, b'?');
     };
-    if same(name, b"instance_floats") {
-        return put_floats(table, i, room, out, waiting);
+    put_written(name, table, i, room, out, waiting)
+}
+
+fn put_written(
+    name: &[u8],
+    table: &[u8],
+    i: u16,
+    room: usize,
+    out: &mut Buffer,
+    waiting: usize,
+) -> usize {
+    match which(name, b"instance_floats instance_coords") {
+        0 => put_floats(table, i, room, out, waiting),
+        1 => coords::put_instance(table, i, room, out, waiting),
+        _ => print::put(out, waiting, b'?'),
     }
-    if same(name, b"instance_coords") {
-        return coords::put_instance(table, i, room, out, waiting);
+}
+
+fn put_of_three(name: &[u8], table: &[u8], line: &[u8], out: &mut Buffer, waiting: usize) -> usize {
+    if same(name, b"normalized_coords") {
+        return coords::put_settings(table, line, out, waiting);
     }
     print::put(out, waiting, b'?')
 }
 
 fn put_header(fvar: Fvar, out: &mut Buffer, waiting: usize) -> usize {
-    let mut at = print::put_text(out, waiting, b"value");
-    at = print::put_next(out, at, fvar.axis_offset as u64);
-    at = print::put_next(out, at, fvar.axis_count as u64);
-    at = print::put_next(out, at, fvar.axis_size as u64);
-    at = print::put_next(out, at, fvar.inst_count as u64);
-    print::put_next(out, at, fvar.inst_size as u64)
+    let numbers = [
+        fvar.axis_offset as u64,
+        fvar.axis_count as u64,
+        fvar.axis_size as u64,
+        fvar.inst_count as u64,
+        fvar.inst_size as u64,
+    ];
+    print::put_values(out, waiting, &numbers)
 }
 
 fn put_by_tag(table: &[u8], text: &[u8], get: bool, out: &mut Buffer, waiting: usize) -> usize {
@@ -131,23 +147,29 @@ fn put_axis(answer: AxisAnswer, out: &mut Buffer, waiting: usize) -> usize {
 }
 
 fn put_fields(axis: VarAxis, out: &mut Buffer, waiting: usize) -> usize {
-    let mut at = print::put_text(out, waiting, b"value");
-    at = print::put_next(out, at, axis.index as u64);
-    at = print::put(out, at, b' ');
-    at = print::put_bits(out, at, axis.tag);
-    at = print::put_next_fixed(out, at, axis.min);
+    let index = [axis.index as u64];
+    let mut at = print::put_values(out, waiting, &index);
+    at = print::put_next_bits(out, at, axis.tag);
+    at = put_range(axis, out, at);
+    let rest = [axis.flags as u64, axis.name_id as u64];
+    print::put_numbers(out, at, &rest)
+}
+
+fn put_range(axis: VarAxis, out: &mut Buffer, waiting: usize) -> usize {
+    let mut at = print::put_next_fixed(out, waiting, axis.min);
     at = print::put_next_fixed(out, at, axis.default);
-    at = print::put_next_fixed(out, at, axis.max);
-    at = print::put_next(out, at, axis.flags as u64);
-    print::put_next(out, at, axis.name_id as u64)
+    print::put_next_fixed(out, at, axis.max)
 }
 
 // What an axis' methods answer.
 fn put_shown(axis: VarAxis, out: &mut Buffer, waiting: usize) -> usize {
-    let mut at = print::put_next(out, waiting, if axis.is_hidden() { 1 } else { 0 });
-    at = print::put_next_float(out, at, axis.min_value());
-    at = print::put_next_float(out, at, axis.default_value());
-    print::put_next_float(out, at, axis.max_value())
+    let at = print::put_next(out, waiting, hidden(axis));
+    let bounds = [axis.min_value(), axis.default_value(), axis.max_value()];
+    print::put_floats(out, at, &bounds)
+}
+
+fn hidden(axis: VarAxis) -> u64 {
+    if axis.is_hidden() { 1 } else { 0 }
 }
 
 fn put_instance(answer: InstanceAnswer, out: &mut Buffer, waiting: usize) -> usize {
@@ -158,13 +180,16 @@ fn put_instance(answer: InstanceAnswer, out: &mut Buffer, waiting: usize) -> usi
 }
 
 fn put_names(instance: VarInstance, out: &mut Buffer, waiting: usize) -> usize {
-    let mut at = print::put_text(out, waiting, b"value");
-    at = print::put_next(out, at, instance.index as u64);
-    at = print::put_next(out, at, instance.name_id as u64);
+    let numbers = [instance.index as u64, instance.name_id as u64];
+    let at = print::put_values(out, waiting, &numbers);
     let postscript = instance.postscript_name_id;
-    match postscript {
-        NameId::Named(id) => print::put_next(out, at, id as u64),
-        NameId::Absent => print::put_text(out, at, b" -"),
+    put_name_id(postscript, out, at)
+}
+
+fn put_name_id(name_id: NameId, out: &mut Buffer, waiting: usize) -> usize {
+    match name_id {
+        NameId::Named(id) => print::put_next(out, waiting, id as u64),
+        NameId::Absent => print::put_text(out, waiting, b" -"),
     }
 }
 
@@ -181,32 +206,22 @@ fn put_values(table: &[u8], index: u16, out: &mut Buffer, waiting: usize) -> usi
 // The largest float stands where none was written: no 16.16 number has it.
 fn put_floats(table: &[u8], index: u16, room: usize, out: &mut Buffer, waiting: usize) -> usize {
     let mut list = parse::empty_floats(parse::float(0x7f7f_ffff));
-    let answer = floats(table, index, &mut list, room);
+    let n = parse::at_most_256(room);
+    let answer = Fvar::new(table).instance_floats(table, index, &mut list[0..n]);
     let at = print::put_count(out, waiting, answer);
-    put_list(&list, room, out, at)
+    put_list(parse::first_floats(&list, n), out, at)
 }
 
-// Writes to a list's first elements alone.
-fn floats(table: &[u8], index: u16, list: &mut [f32], room: usize) -> Half {
-    let fvar = Fvar::new(table);
-    if room < list.len() {
-        return fvar.instance_floats(table, index, &mut list[0..room]);
-    }
-    fvar.instance_floats(table, index, list)
-}
-
-// A blank, and a list's first elements.
-fn put_list(list: &Floats, room: usize, out: &mut Buffer, waiting: usize) -> usize {
+// A blank, and a list's elements.
+fn put_list(list: &[f32], out: &mut Buffer, waiting: usize) -> usize {
     let mut at = print::put(out, waiting, b' ');
-    if room == 0 {
+    if list.len() == 0 {
         return print::put(out, at, b'-');
     }
     let mut i = 0;
-    while i < 256 {
-        if i < room {
-            at = print::put_comma(out, at, i);
-            at = print::put_float(out, at, list[i]);
-        }
+    while i < list.len() {
+        at = print::put_comma(out, at, i);
+        at = print::put_float(out, at, list[i]);
         i += 1;
     }
     at

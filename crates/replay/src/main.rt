@@ -4,6 +4,8 @@ mod coords;
 mod deltas;
 mod fixed;
 mod fvar;
+mod glyphs;
+mod measures;
 mod parse;
 mod print;
 mod words;
@@ -32,8 +34,22 @@ fn answer(line: &[u8], out: &mut Buffer, waiting: usize) -> usize {
 
 fn answer_other(line: &[u8], out: &mut Buffer, waiting: usize) -> usize {
     match deltas::of_line(line) {
-        deltas::Answer::NoCase => fvar::put_line(line, out, waiting),
+        deltas::Answer::NoCase => answer_measures(line, out, waiting),
         a => deltas::put(a, out, waiting),
+    }
+}
+
+fn answer_measures(line: &[u8], out: &mut Buffer, waiting: usize) -> usize {
+    match measures::of_line(line) {
+        measures::Answer::NoCase => answer_glyph(line, out, waiting),
+        a => measures::put(a, out, waiting),
+    }
+}
+
+fn answer_glyph(line: &[u8], out: &mut Buffer, waiting: usize) -> usize {
+    match glyphs::of_line(line) {
+        glyphs::Answer::NoCase => fvar::put_line(line, out, waiting),
+        a => glyphs::put(a, out, waiting),
     }
 }
 

@@ -1,12 +1,18 @@
 // The text of a case's arguments.
 ghost use mathlib.Core.Path.{_≡_};
-ghost use Prim.Native.Nat.{_≤_};
-ghost use lib.Ieee.{binary32, ofBits};
+ghost use Prim.Native.Nat.{_≤_, _*_, _+_};
 ghost use lib.ListN.{length};
-ghost use Rattle.replay.specs.Parse.{said, digitOf, numberIn, bitsOf, bitsOfMinus, integerBits, floatBits};
 use crate::Buffer;
 use crate::words::same;
-use numbers::F2Dot14;
+use numbers::as_i16;
+pub(crate) use numerals::Parsed;
+pub(crate) use numerals::Place;
+use numerals::digit;
+pub(crate) use numerals::float;
+pub(crate) use numerals::float_bits;
+pub(crate) use numerals::index;
+pub(crate) use numerals::integer;
+pub(crate) use numerals::natural;
 
 // A list has at most 256 elements.
 pub(crate) type Bits = [u32; 256];
@@ -28,138 +34,19 @@ pub(crate) fn empty_halves(mark: i16) -> Halves {
     [mark; 256]
 }
 
-// What a text of digits says.
-pub(crate) enum Parsed {
-    Value(u32),
-    Not,
-}
-
-pub(crate) enum Place {
-    Value(u16),
-    Not,
-}
-
 pub(crate) enum Size {
     Value(usize),
     Not,
 }
 
-// A digit's value; 16 for what is none.
-fn digit(byte: u8) -> u64
-    ensures { λ r. ⌜ (r ≡ digitOf byte) × (r ≤ 16) ⌝ }
-{
-    if byte < b'0' {
-        return 16;
-    }
-    if byte <= b'9' {
-        return (byte - b'0') as u64;
-    }
-    if byte < b'a' {
-        return 16;
-    }
-    if byte <= b'f' {
-        return (byte - b'a') as u64 + 10;
-    }
-    16
+enum Byte {
+    Value(u8),
+    Not,
 }
 
-// One digit or more, whose value is below 2^32.
-fn digits(text: &[u8], base: u64) -> Parsed
-    requires { ⌜ base ≤ 16 ⌝ }
-    ensures { λ r. ⌜ said r ≡ numberIn base (now (text .entry)) ⌝ }
-{
-    if text.len() == 0 {
-        return Parsed::Not;
-    }
-    let mut n: u64 = 0;
-    let mut i = 0;
-    while i < text.len() {
-        let d = digit(text[i]);
-        if d >= base {
-            return Parsed::Not;
-        }
-        n = n * base + d;
-        if n > 0xffff_ffff {
-            return Parsed::Not;
-        }
-        i += 1;
-    }
-    Parsed::Value(n as u32)
-}
-
-// A number below 2^32 in decimal.
-pub(crate) fn natural(text: &[u8]) -> Parsed
-    ensures { λ r. ⌜ said r ≡ numberIn 10 (now (text .entry)) ⌝ }
-{
-    digits(text, 10)
-}
-
-// The 32 bits of a signed number in decimal, perhaps with a minus, from -2^31 to 2^31 - 1.
-pub(crate) fn integer(text: &[u8]) -> Parsed
-    ensures { λ r. ⌜ said r ≡ integerBits (now (text .entry)) ⌝ }
-{
-    if text.len() == 0 {
-        return Parsed::Not;
-    }
-    if text[0] == b'-' {
-        return negative(natural(&text[1..]));
-    }
-    positive(natural(text))
-}
-
-fn positive(magnitude: Parsed) -> Parsed
-    ensures { λ r. ⌜ said r ≡ bitsOf (said magnitude) ⌝ }
-{
-    let Parsed::Value(n) = magnitude else {
-        return Parsed::Not;
-    };
-    if n >= 0x8000_0000 {
-        return Parsed::Not;
-    }
-    Parsed::Value(n)
-}
-
-fn negative(magnitude: Parsed) -> Parsed
-    ensures { λ r. ⌜ said r ≡ bitsOfMinus (said magnitude) ⌝ }
-{
-    let Parsed::Value(n) = magnitude else {
-        return Parsed::Not;
-    };
-    if n > 0x8000_0000 {
-        return Parsed::Not;
-    }
-    Parsed::Value(std::num::wrapping_sub_u32(0, n))
-}
-
-// A float's bits: eight hexadecimal digits.
-pub(crate) fn float_bits(text: &[u8]) -> Parsed
-    ensures { λ r. ⌜ said r ≡ floatBits (now (text .entry)) ⌝ }
-{
-    if text.len() != 8 {
-        return Parsed::Not;
-    }
-    digits(text, 16)
-}
-
-// The float with the bits n. All NaNs are one.
-pub(crate) fn float(n: u32) -> f32
-    ensures { λ r. ⌜ r ≡ ofBits binary32 n ⌝ }
-{
-    if n % 0x8000_0000 > 0x7f80_0000 {
-        return 0.0 / 0.0;
-    }
-    f32::from_bits(n)
-}
-
-// A number below 2^16 in decimal.
-pub(crate) fn index(text: &[u8]) -> Place {
-    let Parsed::Value(n) = natural(text) else {
-        return Place::Not;
-    };
-    if n > 0xffff {
-        return Place::Not;
-    }
-    Place::Value(n as u16)
+pub(crate) enum Coord {
+    Value(i16),
+    Not,
 }
 
 // How many elements a list has that is written to.
@@ -171,6 +58,13 @@ pub(crate) fn room(text: &[u8]) -> Size {
         return Size::Not;
     }
     Size::Value(n as usize)
+}
+
+// A size that a list has room for: the size itself, but for one that `room` never answers.
+pub(crate) fn at_most_256(size: usize) -> usize
+    ensures { λ r. ⌜ r ≤ 256 ⌝ }
+{
+    if size < 256 { size } else { 256 }
 }
 
 // Bytes, two hexadecimal digits each, or a minus for none: how many there are.
@@ -188,20 +82,34 @@ pub(crate) fn bytes(text: &[u8], out: &mut Buffer) -> Size {
     if size > 65536 {
         return Size::Not;
     }
+    fill_bytes(text, size, out)
+}
+
+fn fill_bytes(text: &[u8], size: usize, out: &mut Buffer) -> Size
+    requires { ⌜ (size ≤ 65536) × (2 * size ≤ length (now text)) ⌝ }
+{
     let mut i = 0;
     while i < size {
-        let high = digit(text[2 * i]);
-        let low = digit(text[2 * i + 1]);
-        if high > 15 {
-            return Size::Not;
-        }
-        if low > 15 {
-            return Size::Not;
-        }
-        out[i] = (high * 16 + low) as u8;
+        out[i] = match octet(text[2 * i], text[2 * i + 1]) {
+            Byte::Value(n) => n,
+            Byte::Not => return Size::Not,
+        };
         i += 1;
     }
     Size::Value(size)
+}
+
+// The byte with two hexadecimal digits.
+fn octet(high: u8, low: u8) -> Byte {
+    let a = digit(high);
+    let b = digit(low);
+    if a > 15 {
+        return Byte::Not;
+    }
+    if b > 15 {
+        return Byte::Not;
+    }
+    Byte::Value((a * 16 + b) as u8)
 }
 
 // A list of 32 bits each, eight hexadecimal digits, with a comma between two, or a minus for none: how
@@ -218,18 +126,31 @@ pub(crate) fn list(text: &[u8], out: &mut Bits) -> Size {
     if 9 * size != text.len() + 1 {
         return Size::Not;
     }
+    fill_list(text, size, out)
+}
+
+fn fill_list(text: &[u8], size: usize, out: &mut Bits) -> Size
+    requires { ⌜ (size ≤ 256) × (9 * size ≡ length (now text) + 1) ⌝ }
+{
     let mut i = 0;
     while i < size {
-        if !comma(text, 9 * i + 8) {
-            return Size::Not;
-        }
-        out[i] = match float_bits(&text[9 * i..9 * i + 8]) {
+        out[i] = match element(text, 9 * i) {
             Parsed::Value(n) => n,
             Parsed::Not => return Size::Not,
         };
         i += 1;
     }
     Size::Value(size)
+}
+
+// The element that starts at the place.
+fn element(text: &[u8], at: usize) -> Parsed
+    requires { ⌜ at + 8 ≤ length (now text) ⌝ }
+{
+    if comma(text, at + 8) {
+        return float_bits(&text[at..at + 8]);
+    }
+    Parsed::Not
 }
 
 // Whether a comma stands at the place, or the text's end.
@@ -245,14 +166,18 @@ pub(crate) fn halves(text: &[u8], out: &mut Halves) -> Size {
     if same(text, b"-") {
         return Size::Value(0);
     }
+    fill_halves(text, out)
+}
+
+fn fill_halves(text: &[u8], out: &mut Halves) -> Size {
     let mut n = 0;
     let mut from = 0;
     while n < 256 {
         let rest = &text[from..];
         let end = first_comma(rest);
         out[n] = match half(&rest[..end]) {
-            Place::Value(bits) => F2Dot14::from_bits(bits).0,
-            Place::Not => return Size::Not,
+            Coord::Value(x) => x,
+            Coord::Not => return Size::Not,
         };
         n += 1;
         if end == rest.len() {
@@ -277,10 +202,18 @@ fn first_comma(text: &[u8]) -> usize
     i
 }
 
-fn half(text: &[u8]) -> Place {
+// A signed 16-bit number in decimal, as a 2.14 number's raw integer is.
+pub(crate) fn half(text: &[u8]) -> Coord {
     match integer(text) {
-        Parsed::Value(n) => half_bits(n),
-        Parsed::Not => Place::Not,
+        Parsed::Value(n) => as_half(half_bits(n)),
+        Parsed::Not => Coord::Not,
+    }
+}
+
+fn as_half(bits: Place) -> Coord {
+    match bits {
+        Place::Value(n) => Coord::Value(as_i16(n)),
+        Place::Not => Coord::Not,
     }
 }
 

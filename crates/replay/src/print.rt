@@ -56,8 +56,12 @@ pub(crate) fn half_bits(x: F2Dot14) -> u32 {
 
 // 32 bits as eight hexadecimal digits.
 pub(crate) fn put_bits(out: &mut Buffer, waiting: usize, n: u32) -> usize {
+    put_hex(out, waiting, n as u64, 8)
+}
+
+fn put_hex(out: &mut Buffer, waiting: usize, n: u64, places: usize) -> usize {
     let mut text = [0u8; 16];
-    let k = io::hex(n as u64, 8, &mut text);
+    let k = io::hex(n, places, &mut text);
     put_text(out, waiting, &text[..k])
 }
 
@@ -84,9 +88,7 @@ pub(crate) fn put_bytes(out: &mut Buffer, waiting: usize, bytes: &[u8]) -> usize
 }
 
 fn put_byte(out: &mut Buffer, waiting: usize, byte: u8) -> usize {
-    let mut text = [0u8; 16];
-    let k = io::hex(byte as u64, 2, &mut text);
-    put_text(out, waiting, &text[..k])
+    put_hex(out, waiting, byte as u64, 2)
 }
 
 // What a list has before its element i: nothing before the first, else a comma.
@@ -103,6 +105,29 @@ pub(crate) fn put_next(out: &mut Buffer, waiting: usize, n: u64) -> usize {
     put_natural(out, at, n)
 }
 
+// Each number behind a blank.
+pub(crate) fn put_numbers(out: &mut Buffer, waiting: usize, numbers: &[u64]) -> usize {
+    let mut at = waiting;
+    let mut i = 0;
+    while i < numbers.len() {
+        at = put_next(out, at, numbers[i]);
+        i += 1;
+    }
+    at
+}
+
+// What a function answers that answers numbers.
+pub(crate) fn put_values(out: &mut Buffer, waiting: usize, numbers: &[u64]) -> usize {
+    let at = put_text(out, waiting, b"value");
+    put_numbers(out, at, numbers)
+}
+
+// A blank, and 32 bits.
+pub(crate) fn put_next_bits(out: &mut Buffer, waiting: usize, n: u32) -> usize {
+    let at = put(out, waiting, b' ');
+    put_bits(out, at, n)
+}
+
 // A blank, and a 16.16 number.
 pub(crate) fn put_next_fixed(out: &mut Buffer, waiting: usize, x: Fixed) -> usize {
     let at = put(out, waiting, b' ');
@@ -113,6 +138,17 @@ pub(crate) fn put_next_fixed(out: &mut Buffer, waiting: usize, x: Fixed) -> usiz
 pub(crate) fn put_next_float(out: &mut Buffer, waiting: usize, x: f32) -> usize {
     let at = put(out, waiting, b' ');
     put_float(out, at, x)
+}
+
+// Each float behind a blank.
+pub(crate) fn put_floats(out: &mut Buffer, waiting: usize, floats: &[f32]) -> usize {
+    let mut at = waiting;
+    let mut i = 0;
+    while i < floats.len() {
+        at = put_next_float(out, at, floats[i]);
+        i += 1;
+    }
+    at
 }
 
 pub(crate) fn put_refused(out: &mut Buffer, waiting: usize, number: u8) -> usize {

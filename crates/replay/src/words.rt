@@ -2,7 +2,7 @@
 ghost use mathlib.Core.Path.{_≡_};
 ghost use Prim.Native.Nat.{_≤_};
 ghost use lib.ListN.{length, take, drop};
-ghost use Rattle.replay.specs.Words.{beforeBlank, afterBlanks, wordOf, wordCount, sameText};
+ghost use Rattle.replay.specs.Words.{beforeBlank, afterBlanks, wordOf, wordCount, sameText, placeAmong};
 
 pub(crate) fn count(line: &[u8]) -> usize
     ensures { λ r. ⌜ r ≡ wordCount (now (line .entry)) ⌝ }
@@ -75,4 +75,19 @@ pub(crate) fn same(a: &[u8], b: &[u8]) -> bool
         i += 1;
     }
     true
+}
+
+// Which word of a list a text is, counted from 0. Where it is none: how many there are.
+pub(crate) fn which(text: &[u8], list: &[u8]) -> usize
+    ensures { λ r. ⌜ r ≡ placeAmong (now (text .entry)) (now (list .entry)) ⌝ }
+{
+    let n = count(list);
+    let mut k = 0;
+    while k < n {
+        if same(text, word(list, k)) {
+            return k;
+        }
+        k += 1;
+    }
+    k
 }

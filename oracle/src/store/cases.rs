@@ -9,17 +9,17 @@ use crate::text;
 type Region = Vec<[i16; 3]>;
 
 #[derive(Clone)]
-struct Subtable {
-    item_count: u16,
+pub struct Subtable {
+    pub item_count: u16,
     word_count: u16,
     indices: Vec<u16>,
     /// an entry has its low byte alone where it is behind the words
-    rows: Vec<Vec<i16>>,
+    pub rows: Vec<Vec<i16>>,
 }
 
 impl Subtable {
     /// Of one row, that names the regions in turn.
-    fn of_row(word_count: u16, row: &[i16]) -> Self {
+    pub fn of_row(word_count: u16, row: &[i16]) -> Self {
         Subtable {
             item_count: 1,
             word_count,
@@ -48,16 +48,16 @@ impl Subtable {
 }
 
 #[derive(Clone)]
-struct Store {
+pub struct Store {
     axis_count: u16,
     regions: Vec<Region>,
-    subtables: Vec<Subtable>,
+    pub subtables: Vec<Subtable>,
     /// whether the regions lie behind the subtables, where a cut meets them
     regions_last: bool,
 }
 
 impl Store {
-    fn of_one(regions: &[&[[i16; 3]]], subtable: Subtable) -> Self {
+    pub fn of_one(regions: &[&[[i16; 3]]], subtable: Subtable) -> Self {
         Store {
             axis_count: regions.first().map_or(1, |region| region.len() as u16),
             regions: regions.iter().map(|region| region.to_vec()).collect(),
@@ -146,10 +146,10 @@ fn hvar(advance: Option<&Map>, bearing: Option<&Map>, store: &Store) -> Vec<u8> 
 }
 
 /// A record of an MVAR: a tag, then inner and outer index.
-type Record = (u32, u16, u16);
+pub type Record = (u32, u16, u16);
 
 /// A bare MVAR. Records that overlap are seen where the later ones leave them.
-fn mvar(record_size: u16, records: &[Record], store: &Store) -> Vec<u8> {
+pub fn mvar(record_size: u16, records: &[Record], store: &Store) -> Vec<u8> {
     let mut bytes = vec![0, 1, 0, 0, 0, 0];
     let end = 12 + record_size as usize * records.len().max(1);
     let at = end.max(12 + 8) as u16;
@@ -183,11 +183,11 @@ fn put(bytes: &mut Vec<u8>, at: usize, part: &[u8]) {
     write(bytes, at, part);
 }
 
-const RISE: [i16; 3] = [0, 16384, 16384];
+pub const RISE: [i16; 3] = [0, 16384, 16384];
 const HILL: [i16; 3] = [0, 12288, 16384];
 const FALL: [i16; 3] = [-16384, -16384, 0];
 /// skipped, since it holds 0
-const ALWAYS: [i16; 3] = [-16384, 8192, 16384];
+pub const ALWAYS: [i16; 3] = [-16384, 8192, 16384];
 
 const TAGS: [u32; 6] = [
     u32::from_be_bytes(*b"hasc"),
@@ -206,7 +206,7 @@ struct Asked {
     cut: bool,
 }
 
-fn coords_text(coords: &[i16]) -> String {
+pub fn coords_text(coords: &[i16]) -> String {
     text::list_text(coords.iter().map(i16::to_string))
 }
 
@@ -231,7 +231,7 @@ fn of_tag(offset: usize, tag: u32, coords: &[i16]) -> Vec<(&'static str, String)
 }
 
 /// Stores of none to four axes, of no to three regions, rows of words and bytes mixed.
-fn stores() -> Vec<Store> {
+pub fn stores() -> Vec<Store> {
     let row = |words, row: &[i16]| Subtable::of_row(words, row);
     let mut stores = vec![
         Store::of_one(&[&[RISE]], row(0, &[100])),
@@ -575,7 +575,7 @@ fn line(name: &str, font: &[u8], rest: &str) -> String {
 }
 
 /// All fonts, at each length that is asked for, with each of their questions.
-struct Edges {
+pub struct Edges {
     fonts: Vec<Asked>,
     /// a font, a length, a question
     all: Vec<(u32, u32, u32)>,
@@ -583,7 +583,19 @@ struct Edges {
 
 impl Edges {
     fn new() -> Self {
-        let fonts = [cut_fonts(), triples(), maps(), offsets(), mvars()];
+        Edges::of(vec![cut_fonts(), triples(), maps(), offsets(), mvars()])
+    }
+
+    /// Those of the fonts but for the triples, which have the store alone in view, and of these questions.
+    pub fn of_questions(names: &[&str]) -> Self {
+        let mut fonts = vec![cut_fonts(), maps(), offsets(), mvars()];
+        for asked in fonts.iter_mut().flatten() {
+            asked.questions.retain(|(name, _)| names.contains(name));
+        }
+        Edges::of(fonts)
+    }
+
+    fn of(fonts: Vec<Vec<Asked>>) -> Self {
         let fonts: Vec<Asked> = fonts.into_iter().flatten().collect();
         let mut all = vec![];
         for (k, asked) in fonts.iter().enumerate() {
@@ -597,7 +609,11 @@ impl Edges {
         Edges { fonts, all }
     }
 
-    fn nth(&self, n: u64) -> String {
+    pub fn len(&self) -> u64 {
+        self.all.len() as u64
+    }
+
+    pub fn nth(&self, n: u64) -> String {
         let (k, length, question) = self.all[n as usize];
         let asked = &self.fonts[k as usize];
         let (name, rest) = &asked.questions[question as usize];
@@ -839,7 +855,7 @@ fn item_case(random: &mut Random) -> String {
     )
 }
 
-fn glyph_case(name: &str, random: &mut Random) -> String {
+pub fn glyph_case(name: &str, random: &mut Random) -> String {
     let store = store(random);
     let maps = [map(&store, random), map(&store, random)];
     // a bearing has no delta without a map
@@ -861,7 +877,8 @@ fn glyph_case(name: &str, random: &mut Random) -> String {
     line(name, &font, &format!(" {base} {glyph} {coords}"))
 }
 
-fn mvar_case(name: &str, random: &mut Random) -> String {
+/// An MVAR whose records have these tags, or the next ones.
+pub fn mvar_case(name: &str, tags: &[u32], random: &mut Random) -> String {
     let store = store(random);
     let count = match random.below(16) {
         0 => 0,
@@ -872,7 +889,7 @@ fn mvar_case(name: &str, random: &mut Random) -> String {
         .map(|_| {
             let (outer, inner) = row_of(&store, random);
             (
-                random.pick(&TAGS).wrapping_add(random.below(2) as u32),
+                random.pick(tags).wrapping_add(random.below(2) as u32),
                 inner,
                 outer as u16,
             )
@@ -889,7 +906,7 @@ fn mvar_case(name: &str, random: &mut Random) -> String {
     let font = [vec![0xaa; at], mvar(size as u16, &records, &store)].concat();
     let font = damaged(font, random);
     let tag = match records.is_empty() || random.below(8) == 0 {
-        true => random.pick(&TAGS),
+        true => random.pick(tags),
         false => random.pick(&records).0,
     };
     let coords = coords(&store, random);
@@ -903,7 +920,7 @@ fn mvar_case(name: &str, random: &mut Random) -> String {
 fn random_case(name: &str, random: &mut Random) -> String {
     match name {
         "item_delta" => item_case(random),
-        _ if name.starts_with("mvar") => mvar_case(name, random),
+        _ if name.starts_with("mvar") => mvar_case(name, &TAGS, random),
         _ => glyph_case(name, random),
     }
 }
@@ -932,7 +949,7 @@ impl Iterator for Cases {
     fn next(&mut self) -> Option<String> {
         // a prime that is larger than the number of edges: each is met once
         const STRIDE: u64 = 1_000_000_007;
-        let edges = self.edges.all.len() as u64;
+        let edges = self.edges.len();
         let (turn, odd) = (self.made / 2, self.made % 2 == 1);
         self.made += 1;
         if odd || turn >= edges {

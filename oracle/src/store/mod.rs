@@ -2,7 +2,7 @@
 //! rules' answer.
 
 pub mod cases;
-mod rules;
+pub mod rules;
 
 use crate::axes::rules::Answer;
 use crate::numbers::rules::to_f32;
@@ -37,7 +37,7 @@ pub const FUNCTIONS: [(&str, &[Kind]); 8] = [
     ("mvar_delta", &[Offset, Tag]),
 ];
 
-const NEW: &str = "mvar_new";
+pub const NEW: &str = "mvar_new";
 
 pub struct Case {
     name: &'static str,

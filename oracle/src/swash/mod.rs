@@ -1,11 +1,13 @@
-//! Stands in for swash's own `lib.rs` and for the files that its `variation.rs` leans on: a font that
-//! is one bare fvar, settings, and names, of which there are none here. The build puts swash's
-//! `variation.rs` beside this file, unchanged.
+//! Stands in for swash's own `lib.rs` and for the files that its `variation.rs` and `metrics.rs` lean
+//! on: a font that is one bare fvar, settings, and names, of which there are none here. The build puts
+//! swash's `variation.rs` beside this file, unchanged, and `metrics.rs`, unchanged, with `hook.rs`
+//! behind it.
 #![allow(dead_code)]
 
 #[macro_use]
 mod macros;
 pub mod internal;
+pub mod metrics;
 pub mod setting;
 pub mod string;
 pub mod variation;
@@ -13,9 +15,11 @@ pub mod variation;
 use internal::{var, RawFont, RawTag};
 
 pub type Tag = u32;
+pub type GlyphId = u16;
 pub type NormalizedCoord = i16;
 
-/// A font whose only table is an fvar, its data.
+/// A font whose only table is an fvar, its data. For the measures it is any bytes: they come with the
+/// offsets in them.
 #[derive(Copy, Clone)]
 pub struct FontRef<'a> {
     pub data: &'a [u8],

@@ -6,9 +6,11 @@
 pub mod fixed;
 mod parse;
 pub mod shown;
+mod tables;
 pub mod var;
 
 pub use parse::*;
+pub use tables::*;
 
 pub type RawTag = u32;
 

@@ -1,14 +1,15 @@
 -- `replay::coords::put_list` is safe and ends. Assumes nothing.
 use Prim.Native.Nat.{_≤_, _-_}
+use lib.ListN.{length}
 use borrow.Author.Needs.{needs}
 use Rattle.replay.proofs.coords.put_list.Statement.{statement}
 use Rattle.replay.proofs.coords.put_list.Tie as tie
 
 abbrev Inv-loop : tie.InvT-loop
-Inv-loop list room out₀ waiting at₀ i₀ out at i = i ≤ 256
+Inv-loop list out₀ waiting at₀ i₀ out at i = i ≤ length list
 
 abbrev μ-loop : tie.MeasureT-loop
-μ-loop list room out₀ waiting at₀ i₀ out at i = 256 - i
+μ-loop list out₀ waiting at₀ i₀ out at i = length list - i
 
 put-requires : tie.Need-put-requires Inv-loop μ-loop
 put-requires c κs = search needs
@@ -25,11 +26,11 @@ loop-holds c = search needs
 put-comma-requires : tie.Need-put-comma-requires Inv-loop μ-loop
 put-comma-requires c κs = search needs
 
-mul-t13 : tie.Need-mul-t13 Inv-loop μ-loop
-mul-t13 c = search needs
+mul-t10 : tie.Need-mul-t10 Inv-loop μ-loop
+mul-t10 c = search needs
 
-element-copy-out-t16 : tie.Need-element-copy-out-t16 Inv-loop μ-loop
-element-copy-out-t16 c = search needs
+shared-slice-copy-out-t15 : tie.Need-shared-slice-copy-out-t15 Inv-loop μ-loop
+shared-slice-copy-out-t15 c = search needs
 
 put-half-requires : tie.Need-put-half-requires Inv-loop μ-loop
 put-half-requires c κs = search needs
@@ -57,8 +58,8 @@ put-list-spec =
     returns
     loop-holds
     put-comma-requires
-    mul-t13
-    element-copy-out-t16
+    mul-t10
+    shared-slice-copy-out-t15
     put-half-requires
     add-i
     loop-less

@@ -1,14 +1,15 @@
 -- `replay::fvar::put_list` is safe and ends. Assumes nothing.
 use Prim.Native.Nat.{_≤_, _-_}
+use lib.ListN.{length}
 use borrow.Author.Needs.{needs}
 use Rattle.replay.proofs.fvar.put_list.Statement.{statement}
 use Rattle.replay.proofs.fvar.put_list.Tie as tie
 
 abbrev Inv-loop : tie.InvT-loop
-Inv-loop list room out₀ waiting at₀ i₀ out at i = i ≤ 256
+Inv-loop list out₀ waiting at₀ i₀ out at i = i ≤ length list
 
 abbrev μ-loop : tie.MeasureT-loop
-μ-loop list room out₀ waiting at₀ i₀ out at i = 256 - i
+μ-loop list out₀ waiting at₀ i₀ out at i = length list - i
 
 put-requires : tie.Need-put-requires Inv-loop μ-loop
 put-requires c κs = search needs
@@ -28,8 +29,8 @@ put-comma-requires c κs = search needs
 mul-put-float : tie.Need-mul-put-float Inv-loop μ-loop
 mul-put-float c = search needs
 
-element-copy-out-put-float : tie.Need-element-copy-out-put-float Inv-loop μ-loop
-element-copy-out-put-float c = search needs
+shared-slice-read-put-float : tie.Need-shared-slice-read-put-float Inv-loop μ-loop
+shared-slice-read-put-float c = search needs
 
 put-float-requires : tie.Need-put-float-requires Inv-loop μ-loop
 put-float-requires c κs = search needs
@@ -58,7 +59,7 @@ put-list-spec =
     loop-holds
     put-comma-requires
     mul-put-float
-    element-copy-out-put-float
+    shared-slice-read-put-float
     put-float-requires
     add-i
     loop-less

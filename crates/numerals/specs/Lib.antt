@@ -1,0 +1,2 @@
+-- What the contracts of `numerals` cite.
+pub mod Parse

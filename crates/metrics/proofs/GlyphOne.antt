@@ -1,5 +1,6 @@
 -- No second answer: for each public function of `glyph` and `vertical`, two answers that its contract allows are the same. Assumes nothing.
 use mathlib.Core.Path.{_≡_, refl, ap, sym, _∙_}
+use Rattle.readers.proofs.One.{one-back}
 use Rattle.metrics.specs.Vertical as Vertically
 use Rattle.metrics.specs.Vertical.{vmtxGlyf, vmtxVorg, synthesized}
 use Rattle.metrics.specs.Glyph as Glyph
@@ -58,10 +59,10 @@ glyphs-back : (m : GlyphMetrics) → structOf (glyphsOf m) ≡ m
 glyphs-back m = ap (withEnum m) (enum-back (m .vertical))
 
 oneGlyphs : {m : Glyph.GlyphMetrics} {r r′ : GlyphMetrics} → glyphsOf r ≡ m → glyphsOf r′ ≡ m → r ≡ r′
-oneGlyphs {r = r} {r′ = r′} p q = sym (glyphs-back r) ∙ ap structOf (p ∙ sym q) ∙ glyphs-back r′
+oneGlyphs p q = one-back glyphsOf structOf glyphs-back p q
 
 pub synthesize-one : (κs : _) (a : _) (r r′ : _) (s s′ : _) → synthesize.Post κs a r s → synthesize.Post κs a r′ s′ → r ≡ r′
-synthesize-one κs a r r′ s s′ p q = sym (enum-back r) ∙ ap enumOf (p ∙ sym q) ∙ enum-back r′
+synthesize-one κs a r r′ s s′ p q = one-back verticalOf enumOf enum-back p q
 
 pub materialize-glyph-metrics-one : (κs : _) (a : _) (r r′ : _) (s s′ : _) → materialize-glyph-metrics.Post κs a r s → materialize-glyph-metrics.Post κs a r′ s′ → r ≡ r′
 materialize-glyph-metrics-one κs a r r′ s s′ p q = oneGlyphs p q

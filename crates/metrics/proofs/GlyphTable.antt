@@ -1,41 +1,36 @@
 -- A glyph's advances, bearings and vertical origins, computed by the definitions that the contracts cite. Assumes nothing.
 use Prim.Native.Nat.{ℕ}
 use mathlib.Core.Path.{_≡_, refl}
-use mathlib.Core.Bool.{true, false}
-use mathlib.Core.List.{List, [], _∷_}
+use mathlib.Core.Bool.{Bool, true, false}
+use mathlib.Core.List.{List, [], _∷_, _++_}
 use mathlib.Core.Option.{none, some}
 use lib.IntN.{pos, negsuc}
 use lib.ListN.{drop}
 use lib.Ieee.{Float, fin, inf, nan}
-use Rattle.metrics.specs.Scale.{one, float}
+use Rattle.store.proofs.DeltaTable.{mapped}
+use Rattle.metrics.specs.Scale.{float}
 use Rattle.metrics.specs.Vertical.{Vertical, vmtxGlyf, vmtxVorg, synthesized, hasVerticalMetrics, synthesizedFrom, materializedVertical}
 use Rattle.metrics.specs.Glyph.{GlyphMetrics, hasVariations, withScale, scaledGlyphs, advanceWidth, leftBearing, advanceHeight, topBearing, verticalOrigin}
 use Rattle.metrics.proofs.MeasuresTable.{computing-measures, mvarFont, default}
 
 -- H1's font, with a map for bearings at its end: the advance of glyph 0 varies by 10 at all coordinates, that of glyph 1 by 11, and every bearing by 12.
 abbrev font : List ℕ
-font =
-    0 ∷ 0 ∷ 0 ∷ 0
-    ∷ 0 ∷ 1 ∷ 0 ∷ 0 ∷ 0 ∷ 0 ∷ 0 ∷ 0x18 ∷ 0 ∷ 0 ∷ 0 ∷ 0x10 ∷ 0 ∷ 0 ∷ 0 ∷ 0x33
-    ∷ 0 ∷ 7 ∷ 0 ∷ 3 ∷ 0 ∷ 1 ∷ 2
-    ∷ 0
-    ∷ 0 ∷ 1 ∷ 0 ∷ 0 ∷ 0 ∷ 0x0c ∷ 0 ∷ 1 ∷ 0 ∷ 0 ∷ 0 ∷ 0x10
-    ∷ 0 ∷ 0 ∷ 0 ∷ 1
-    ∷ 0 ∷ 3 ∷ 0 ∷ 0 ∷ 0 ∷ 1 ∷ 0 ∷ 0 ∷ 0x0a ∷ 0x0b ∷ 0x0c
-    ∷ 0 ∷ 7 ∷ 0 ∷ 1 ∷ 2
-    ∷ []
+font = mapped 0x33 ++ (0 ∷ 7 ∷ 0 ∷ 1 ∷ 2 ∷ [])
 
-abbrev at : ℕ → Vertical → Float → GlyphMetrics
-at unitsPerEm vertical scale = record {
+abbrev metricsWith : ℕ → Bool → ℕ → Vertical → Float → GlyphMetrics
+metricsWith hvar hasVvar unitsPerEm vertical scale = record {
   unitsPerEm = unitsPerEm;
   glyphCount = 3;
   hmtx = 0;
-  hvar = 4;
+  hvar = hvar;
   hmtxCount = 3;
-  hasVvar = true;
+  hasVvar = hasVvar;
   vertical = vertical;
   scale = scale;
 }
+
+abbrev at : ℕ → Vertical → Float → GlyphMetrics
+at unitsPerEm vertical scale = metricsWith 4 true unitsPerEm vertical scale
 
 abbrev glyf : ℕ → Vertical
 glyf vvar = vmtxGlyf 0 3 0 vvar 0 0
@@ -99,8 +94,11 @@ unfolding computing-measures
 scale-set = (refl, refl)
 
 -- Variations by HVAR or VVAR; vertical metrics of the font's own.
-pub has : (hasVariations (at 1000 made two) ≡ true) × (hasVerticalMetrics (vorg 0) ≡ true) × (hasVerticalMetrics made ≡ false)
-has = (refl, refl, refl)
+pub variations : (hasVariations (metricsWith 4 false 1000 made two) ≡ true) × (hasVariations (metricsWith 0 true 1000 made two) ≡ true) × (hasVariations (metricsWith 0 false 1000 made two) ≡ false)
+variations = (refl, refl, refl)
+
+pub vertical-metrics : (hasVerticalMetrics (glyf 0) ≡ true) × (hasVerticalMetrics (vorg 0) ≡ true) × (hasVerticalMetrics made ≡ false)
+vertical-metrics = (refl, refl, refl)
 
 -- hasc varies by 2 and hdsc by 3: 1000 + (2 + 3) and 800 + 2, which is 401·2. Their sum is made first: from 33554436, which is 8388609·4, comes 33554440; one by one they would give 33554444.
 pub synthesized-shifted : materializedVertical (mvarFont 11) default made ≡ synthesized 2 (fin false 1005 (pos 0)) (fin false 401 (pos 1))

@@ -1,5 +1,6 @@
 -- No second answer: for each public function of `measures`, two answers that its contract allows are the same. Assumes nothing.
-use mathlib.Core.Path.{_≡_, ap, sym, _∙_}
+use mathlib.Core.Path.{_≡_, refl}
+use Rattle.readers.proofs.One.{one-back}
 use Rattle.metrics.specs.Measures as Measures
 use Rattle.metrics.specs.Structs.{metricsOf}
 use Rattle.metrics.specs.declared.measures.Metrics.{Metrics}
@@ -31,7 +32,7 @@ structOf m = record {
 
 oneMetrics : {m : Measures.Metrics} {r r′ : Metrics} → metricsOf r ≡ m → metricsOf r′ ≡ m → r ≡ r′
 unfolding structOf
-oneMetrics p q = ap structOf (p ∙ sym q)
+oneMetrics p q = one-back metricsOf structOf (λ r. refl) p q
 
 pub materialize-metrics-one : (κs : _) (a : _) (r r′ : _) (s s′ : _) → materialize-metrics.Post κs a r s → materialize-metrics.Post κs a r′ s′ → r ≡ r′
 materialize-metrics-one κs a r r′ s s′ p q = oneMetrics p q

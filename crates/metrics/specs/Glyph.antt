@@ -26,64 +26,54 @@ pub record GlyphMetrics : Type 0 where
 abbrev pub hasVariations : GlyphMetrics → Bool
 hasVariations m = not (eqb (m .hvar) 0) || m .hasVvar
 
--- The same with another scale; with other vertical metrics.
-abbrev pub withScale : Float → GlyphMetrics → GlyphMetrics
-withScale s m = record {
+-- The same with other vertical metrics and another scale; with another scale alone.
+abbrev pub with : Vertical → Float → GlyphMetrics → GlyphMetrics
+with vertical scale m = record {
   unitsPerEm = m .unitsPerEm;
   glyphCount = m .glyphCount;
   hmtx = m .hmtx;
   hvar = m .hvar;
   hmtxCount = m .hmtxCount;
   hasVvar = m .hasVvar;
-  vertical = m .vertical;
-  scale = s;
+  vertical = vertical;
+  scale = scale;
 }
 
-abbrev pub withVertical : Vertical → GlyphMetrics → GlyphMetrics
-withVertical v m = record {
-  unitsPerEm = m .unitsPerEm;
-  glyphCount = m .glyphCount;
-  hmtx = m .hmtx;
-  hvar = m .hvar;
-  hmtxCount = m .hmtxCount;
-  hasVvar = m .hasVvar;
-  vertical = v;
-  scale = m .scale;
-}
+abbrev pub withScale : Float → GlyphMetrics → GlyphMetrics
+withScale scale m = with (m .vertical) scale m
 
 abbrev pub scaledGlyphs : Float → GlyphMetrics → GlyphMetrics
 scaledGlyphs ppem m = withScale (scaleFor ppem (m .unitsPerEm)) m
 
 abbrev pub materializedGlyphs : List ℕ → List ℤ → GlyphMetrics → GlyphMetrics
-materializedGlyphs font coords m = withVertical (materializedVertical font coords (m .vertical)) m
+materializedGlyphs font coords m = with (materializedVertical font coords (m .vertical)) (m .scale) m
 
--- A glyph's advance or bearing by the HVAR or VVAR at base. An offset of 0 is no table, and its delta 0.0.
-abbrev pub varied : List ℕ → ℕ → Measure → ℕ → List ℤ → ℤ → Float → Float
-varied font base measure glyph coords unvaried scale = adjusted (float unvaried) (floatOf (metricDelta font base measure glyph coords)) scale
+-- A glyph's advance or side bearing by the HVAR or VVAR at base. An offset of 0 is no table, and its delta 0.0.
+abbrev pub varied : List ℕ → ℕ → Measure → ℕ → List ℤ → Float → Float → Float
+varied font base measure glyph coords unvaried scale = adjusted unvaried (floatOf (metricDelta font base measure glyph coords)) scale
 
 abbrev pub advanceWidth : List ℕ → ℕ → List ℤ → ℕ → GlyphMetrics → Float
-advanceWidth font glyph coords unvaried m = varied font (m .hvar) advance glyph coords (pos unvaried) (m .scale)
+advanceWidth font glyph coords unvaried m = varied font (m .hvar) advance glyph coords (float (pos unvaried)) (m .scale)
 
 abbrev pub leftBearing : List ℕ → ℕ → List ℤ → ℤ → GlyphMetrics → Float
-leftBearing font glyph coords unvaried m = varied font (m .hvar) bearing glyph coords unvaried (m .scale)
+leftBearing font glyph coords unvaried m = varied font (m .hvar) bearing glyph coords (float unvaried) (m .scale)
 
--- The advance height: by vmtx and VVAR, or the synthesized one.
-abbrev pub heightOf : List ℕ → ℕ → List ℤ → ℕ → Float → Vertical → Float
-heightOf font glyph coords unvaried scale (vmtxGlyf _ _ _ vvar _ _) = varied font vvar advance glyph coords (pos unvaried) scale
-heightOf font glyph coords unvaried scale (vmtxVorg _ _ vvar _) = varied font vvar advance glyph coords (pos unvaried) scale
-heightOf font glyph coords unvaried scale (synthesized _ height _) = times height scale
+-- What is synthesized: an advance height, the same for all glyphs, and a top side bearing of 0.0.
+abbrev pub synthesizedMeasure : Measure → Float → Float
+synthesizedMeasure advance height = height
+synthesizedMeasure bearing height = zero
+
+-- An advance height or a top side bearing: by vmtx and VVAR, or synthesized and scaled too.
+abbrev pub upright : List ℕ → Measure → ℕ → List ℤ → Float → Float → Vertical → Float
+upright font measure glyph coords unvaried scale (vmtxGlyf _ _ _ vvar _ _) = varied font vvar measure glyph coords unvaried scale
+upright font measure glyph coords unvaried scale (vmtxVorg _ _ vvar _) = varied font vvar measure glyph coords unvaried scale
+upright font measure glyph coords unvaried scale (synthesized _ height _) = times (synthesizedMeasure measure height) scale
 
 abbrev pub advanceHeight : List ℕ → ℕ → List ℤ → ℕ → GlyphMetrics → Float
-advanceHeight font glyph coords unvaried m = heightOf font glyph coords unvaried (m .scale) (m .vertical)
-
--- The top side bearing: a synthesized one is 0.0, scaled too.
-abbrev pub topOf : List ℕ → ℕ → List ℤ → ℤ → Float → Vertical → Float
-topOf font glyph coords unvaried scale (vmtxGlyf _ _ _ vvar _ _) = varied font vvar bearing glyph coords unvaried scale
-topOf font glyph coords unvaried scale (vmtxVorg _ _ vvar _) = varied font vvar bearing glyph coords unvaried scale
-topOf font glyph coords unvaried scale (synthesized _ _ _) = times zero scale
+advanceHeight font glyph coords unvaried m = upright font advance glyph coords (float (pos unvaried)) (m .scale) (m .vertical)
 
 abbrev pub topBearing : List ℕ → ℕ → List ℤ → ℤ → GlyphMetrics → Float
-topBearing font glyph coords unvaried m = topOf font glyph coords unvaried (m .scale) (m .vertical)
+topBearing font glyph coords unvaried m = upright font bearing glyph coords (float unvaried) (m .scale) (m .vertical)
 
 -- The vertical origin with glyf, before scaling: the glyph's yMax plus a top side bearing; without an outline, units per em.
 abbrev pub glyfOrigin : ℕ → Option ℤ → Float → Float

@@ -1,4 +1,4 @@
--- The measures of a font, shifted by MVAR and scaled (document 01, "Measures"; OpenType, MVAR, "Value tags").
+-- The measures of a font, shifted by MVAR and scaled (document 01, "Measures"; OpenType, MVAR, on value tags).
 use Prim.Native.Nat.{ℕ}
 use mathlib.Core.Bool.{Bool, true, false, cond, not, _&&_}
 use mathlib.Core.List.{List}
@@ -32,7 +32,7 @@ pub record Metrics : Type 0 where
   pub strikeoutOffset : Float
   pub strokeSize : Float
 
--- The value tags that shift them, each the number that its four letters make.
+-- The value tags that shift them, each the number that its four letters make. Horizontal ascender, descender, line gap.
 abbrev pub hasc : ℕ
 hasc = 0x6861_7363
 
@@ -42,6 +42,7 @@ hdsc = 0x6864_7363
 abbrev pub hlgp : ℕ
 hlgp = 0x686c_6770
 
+-- Vertical ascender, descender, line gap.
 abbrev pub vasc : ℕ
 vasc = 0x7661_7363
 
@@ -51,6 +52,7 @@ vdsc = 0x7664_7363
 abbrev pub vlgp : ℕ
 vlgp = 0x766c_6770
 
+-- Cap height, x height; underline offset, strikeout offset, underline size.
 abbrev pub cpht : ℕ
 cpht = 0x6370_6874
 

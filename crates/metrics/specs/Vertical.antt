@@ -27,11 +27,12 @@ synthesizedFrom mvar ascent descent = synthesized mvar (plus ascent descent) asc
 abbrev pub shiftedSynthesized : (ℕ → Float) → ℕ → Float → Float → Vertical
 shiftedSynthesized delta mvar advance origin = synthesized mvar (plus advance (plus (delta hasc) (delta hdsc))) (plus origin (delta hasc))
 
--- Vertical metrics at some coordinates: what the font itself has stays.
+-- The synthesized case at some coordinates.
 abbrev pub synthesizedAt : List ℕ → List ℤ → ℕ → Float → Float → Vertical
 synthesizedAt font coords mvar advance origin =
     cond (varies font mvar coords) (shiftedSynthesized (measureDelta font mvar coords) mvar advance origin) (synthesized mvar advance origin)
 
+-- Vertical metrics at some coordinates: what the font itself has stays.
 abbrev pub materializedVertical : List ℕ → List ℤ → Vertical → Vertical
 materializedVertical font coords (vmtxGlyf locaFmt longCount vmtx vvar glyf loca) = vmtxGlyf locaFmt longCount vmtx vvar glyf loca
 materializedVertical font coords (vmtxVorg longCount vmtx vvar vorg) = vmtxVorg longCount vmtx vvar vorg

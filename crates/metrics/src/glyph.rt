@@ -2,14 +2,14 @@
 use crate::measures::scale_for;
 use crate::vertical::Vertical;
 use numbers::as_i16;
-use store::metric::advance_delta;
-use store::metric::sb_delta;
+use store::metric::Measure;
+use store::metric::float_of;
+use store::metric::metric_delta;
 ghost use mathlib.Core.Path.{_≡_};
-ghost use lib.IntN.{pos};
-ghost use Rattle.store.specs.Metric.{advance, bearing};
+ghost use Rattle.store.specs.MetricAnswers.{measureOf};
 ghost use Rattle.metrics.specs.Scale.{adjusted};
 ghost use Rattle.metrics.specs.Vertical.{hasVerticalMetrics};
-ghost use Rattle.metrics.specs.Glyph.{hasVariations, withScale, scaledGlyphs, materializedGlyphs, varied, advanceWidth, leftBearing, advanceHeight, topBearing, glyfOrigin, vorgOrigin, verticalOrigin};
+ghost use Rattle.metrics.specs.Glyph.{hasVariations, withScale, scaledGlyphs, materializedGlyphs, varied, advanceWidth, leftBearing, synthesizedMeasure, upright, advanceHeight, topBearing, glyfOrigin, vorgOrigin, verticalOrigin};
 ghost use Rattle.metrics.specs.Structs.{glyphsOf, ordinate};
 
 // A y coordinate of a glyph, if the font has one.
@@ -70,54 +70,67 @@ impl GlyphMetrics {
     pub fn advance_width(self, font: &[u8], glyph_id: u16, coords: &[i16], unvaried: u16) -> f32
         ensures { λ r. ⌜ r ≡ advanceWidth (now (font .entry)) «glyph_id» (now (coords .entry)) unvaried (glyphsOf self) ⌝ }
     {
-        let hvar = self.hvar;
-        let scale = self.scale;
-        varied_advance(font, hvar, glyph_id, coords, unvaried, scale)
+        self.level(font, Measure::Advance, glyph_id, coords, unvaried as f32)
     }
 
     // The left side bearing of a glyph, from the unvaried one.
     pub fn lsb(self, font: &[u8], glyph_id: u16, coords: &[i16], unvaried: i16) -> f32
         ensures { λ r. ⌜ r ≡ leftBearing (now (font .entry)) «glyph_id» (now (coords .entry)) unvaried (glyphsOf self) ⌝ }
     {
+        self.level(font, Measure::Bearing, glyph_id, coords, unvaried as f32)
+    }
+
+    // An advance width or a left side bearing.
+    fn level(
+        self,
+        font: &[u8],
+        measure: Measure,
+        glyph_id: u16,
+        coords: &[i16],
+        unvaried: f32,
+    ) -> f32
+        ensures { λ r. ⌜ r ≡ varied (now (font .entry)) (glyphsOf self .hvar) (measureOf measure) «glyph_id» (now (coords .entry)) unvaried (glyphsOf self .scale) ⌝ }
+    {
         let hvar = self.hvar;
         let scale = self.scale;
-        varied_bearing(font, hvar, glyph_id, coords, unvaried, scale)
+        varied(font, hvar, measure, glyph_id, coords, unvaried, scale)
     }
 
     // The advance height of a glyph, from the unvaried one; or the synthesized one.
     pub fn advance_height(self, font: &[u8], glyph_id: u16, coords: &[i16], unvaried: u16) -> f32
         ensures { λ r. ⌜ r ≡ advanceHeight (now (font .entry)) «glyph_id» (now (coords .entry)) unvaried (glyphsOf self) ⌝ }
     {
-        let scale = self.scale;
-        let v = self.vertical;
-        match v {
-            Vertical::VmtxGlyf { vvar, .. } => {
-                varied_advance(font, vvar, glyph_id, coords, unvaried, scale)
-            }
-            Vertical::VmtxVorg { vvar, .. } => {
-                varied_advance(font, vvar, glyph_id, coords, unvaried, scale)
-            }
-            Vertical::Synthesized {
-                advance: height,
-                ..
-            } => height * scale,
-        }
+        self.upright(font, Measure::Advance, glyph_id, coords, unvaried as f32)
     }
 
     // The top side bearing of a glyph, from the unvaried one; or a synthesized 0.0, scaled too.
     pub fn tsb(self, font: &[u8], glyph_id: u16, coords: &[i16], unvaried: i16) -> f32
         ensures { λ r. ⌜ r ≡ topBearing (now (font .entry)) «glyph_id» (now (coords .entry)) unvaried (glyphsOf self) ⌝ }
     {
+        self.upright(font, Measure::Bearing, glyph_id, coords, unvaried as f32)
+    }
+
+    // An advance height or a top side bearing.
+    fn upright(
+        self,
+        font: &[u8],
+        measure: Measure,
+        glyph_id: u16,
+        coords: &[i16],
+        unvaried: f32,
+    ) -> f32
+        ensures { λ r. ⌜ r ≡ upright (now (font .entry)) (measureOf measure) «glyph_id» (now (coords .entry)) unvaried (glyphsOf self .scale) (glyphsOf self .vertical) ⌝ }
+    {
         let scale = self.scale;
         let v = self.vertical;
         match v {
             Vertical::VmtxGlyf { vvar, .. } => {
-                varied_bearing(font, vvar, glyph_id, coords, unvaried, scale)
+                varied(font, vvar, measure, glyph_id, coords, unvaried, scale)
             }
             Vertical::VmtxVorg { vvar, .. } => {
-                varied_bearing(font, vvar, glyph_id, coords, unvaried, scale)
+                varied(font, vvar, measure, glyph_id, coords, unvaried, scale)
             }
-            Vertical::Synthesized { .. } => 0.0 * scale,
+            Vertical::Synthesized { advance, .. } => synthesized_measure(measure, advance) * scale,
         }
     }
 
@@ -191,40 +204,29 @@ fn adjusted(unvaried: f32, delta: f32, scale: f32) -> f32
     (unvaried + delta) * scale
 }
 
-// An advance by the HVAR or VVAR at an offset.
-fn varied_advance(
+// An advance or a side bearing by the HVAR or VVAR at an offset.
+fn varied(
     font: &[u8],
     xvar: u32,
+    measure: Measure,
     glyph_id: u16,
     coords: &[i16],
-    unvaried: u16,
+    unvaried: f32,
     scale: f32,
 ) -> f32
-    ensures { λ r. ⌜ r ≡ varied (now (font .entry)) xvar advance «glyph_id» (now (coords .entry)) (pos unvaried) scale ⌝ }
+    ensures { λ r. ⌜ r ≡ varied (now (font .entry)) xvar (measureOf measure) «glyph_id» (now (coords .entry)) unvaried scale ⌝ }
 {
-    adjusted(
-        unvaried as f32,
-        advance_delta(font, xvar, glyph_id, coords),
-        scale,
-    )
+    let delta = float_of(metric_delta(font, xvar, measure, glyph_id, coords));
+    adjusted(unvaried, delta, scale)
 }
 
-// A side bearing by such a table.
-fn varied_bearing(
-    font: &[u8],
-    xvar: u32,
-    glyph_id: u16,
-    coords: &[i16],
-    unvaried: i16,
-    scale: f32,
-) -> f32
-    ensures { λ r. ⌜ r ≡ varied (now (font .entry)) xvar bearing «glyph_id» (now (coords .entry)) unvaried scale ⌝ }
+fn synthesized_measure(measure: Measure, height: f32) -> f32
+    ensures { λ r. ⌜ r ≡ synthesizedMeasure (measureOf measure) height ⌝ }
 {
-    adjusted(
-        unvaried as f32,
-        sb_delta(font, xvar, glyph_id, coords),
-        scale,
-    )
+    match measure {
+        Measure::Advance => height,
+        Measure::Bearing => 0.0,
+    }
 }
 
 fn vorg_origin(units_per_em: u16, origin: Ordinate) -> f32

@@ -48,10 +48,14 @@ abbrev pub back : {R A : Type 0} → (A → R) → (Refusal → R) → Outcome A
 back valued refusing (value a) = valued a
 back valued refusing (refused n) = refusing (refusalOf n)
 
--- An answer type whose map of outcomes can be taken back so is one to one.
+-- A map that can be taken back is one to one.
+pub one-back : {R A : Type 0} (map : R → A) (back : A → R) → ((r : R) → back (map r) ≡ r) → {d : A} {r r′ : R} → map r ≡ d → map r′ ≡ d → r ≡ r′
+one-back map back h {r = r} {r′ = r′} p q = sym (h r) ∙ ap back (p ∙ sym q) ∙ h r′
+
+-- So is the map of outcomes of an answer type.
 pub one-by : {R A : Type 0} (o : R → Outcome A) (valued : A → R) (refusing : Refusal → R) → ((r : R) → back valued refusing (o r) ≡ r)
     → {d : Outcome A} {r r′ : R} → o r ≡ d → o r′ ≡ d → r ≡ r′
-one-by o valued refusing h {r = r} {r′ = r′} p q = sym (h r) ∙ ap (back valued refusing) (p ∙ sym q) ∙ h r′
+one-by o valued refusing h p q = one-back o (back valued refusing) h p q
 
 back8 : (r : Byte) → back B.Value B.Refused (outcome8 r) ≡ r
 back8 (B.Value x) = refl

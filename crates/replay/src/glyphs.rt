@@ -22,13 +22,13 @@ pub(crate) enum Answer {
     NoCase,
 }
 
-// What a word of a case makes of a font.
+// Glyph metrics by a word of a case, if it says some.
 enum Unvaried {
     Value(GlyphMetrics),
     Not,
 }
 
-// What a word says of a y coordinate.
+// A y coordinate by a word of a case, if it says one or that it is missing.
 enum Given {
     Value(Ordinate),
     Not,
@@ -107,13 +107,7 @@ fn scaled_for(line: &[u8]) -> Answer {
     )
 }
 
-// With nothing for vertical type.
-fn of_hvar(units_per_em: u16, hvar: u32, has_vvar: bool) -> GlyphMetrics {
-    let vertical = Vertical::Synthesized {
-        mvar: 0,
-        advance: 0.0,
-        origin: 0.0,
-    };
+fn of_parts(units_per_em: u16, hvar: u32, has_vvar: bool, vertical: Vertical) -> GlyphMetrics {
     GlyphMetrics {
         units_per_em,
         glyph_count: 0,
@@ -126,17 +120,18 @@ fn of_hvar(units_per_em: u16, hvar: u32, has_vvar: bool) -> GlyphMetrics {
     }
 }
 
-fn of_vertical(units_per_em: u16, vertical: Vertical) -> Unvaried {
-    Unvaried::Value(GlyphMetrics {
+// With nothing for vertical type.
+fn of_hvar(units_per_em: u16, hvar: u32, has_vvar: bool) -> GlyphMetrics {
+    of_parts(
         units_per_em,
-        glyph_count: 0,
-        hmtx: 0,
-        hvar: 0,
-        hmtx_count: 0,
-        has_vvar: false,
-        vertical,
-        scale: 1.0,
-    })
+        hvar,
+        has_vvar,
+        Vertical::synthesize(0, 0.0, 0.0),
+    )
+}
+
+fn of_vertical(units_per_em: u16, vertical: Vertical) -> Unvaried {
+    Unvaried::Value(of_parts(units_per_em, 0, false, vertical))
 }
 
 fn for_horizontal(text: &[u8]) -> Unvaried {
@@ -146,7 +141,7 @@ fn for_horizontal(text: &[u8]) -> Unvaried {
     }
 }
 
-// A number for vmtx's partner and VVAR's offset; or MVAR's offset, advance and origin behind a 2.
+// 0 for glyf or 1 for VORG, and VVAR's offset; or 2, MVAR's offset, advance and origin.
 fn for_vertical(text: &[u8], units_per_em: u16) -> Unvaried {
     let mut words = parse::empty_bits();
     let Size::Value(n) = parse::list(text, &mut words) else {

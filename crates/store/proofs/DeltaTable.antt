@@ -1,6 +1,6 @@
 -- Document 01's examples S1 to S5 and H1, computed by the definitions that the contracts cite. Assumes nothing.
 use mathlib.Core.Path.{_≡_, refl}
-use mathlib.Core.List.{List, [], _∷_}
+use mathlib.Core.List.{List, [], _∷_, _++_}
 use Prim.Native.Nat.{ℕ}
 use lib.IntN.{ℤ, pos, negsuc}
 use Rattle.numbers.specs.Numbers.{wrap32, times, over}
@@ -16,67 +16,62 @@ unfoldable pub computing : Unit {0}
 unfolding wrap32 times over unsignedAt signedAt bigEndian run turns walk tripleAt skipped tent tentAt axisTurn regionScalar regionList rowAt itemAt regionIndexAt deltaAt rowTurn rowSum itemSum deltaIn mapEntry storeOf deltaSetAt metricDelta
 computing = tt
 
--- The fonts: an HVAR at 4, its store, the region list, and one subtable.
+-- The fonts: four bytes, an HVAR without maps, whose store stands right behind it, at 20; the region list, and one subtable.
+abbrev hvar : List ℕ
+hvar = 0 ∷ 0 ∷ 0 ∷ 0 ∷ 0 ∷ 1 ∷ 0 ∷ 0 ∷ 0 ∷ 0 ∷ 0 ∷ 0x10 ∷ 0 ∷ 0 ∷ 0 ∷ 0 ∷ 0 ∷ 0 ∷ 0 ∷ 0 ∷ []
+
+-- One axis, one region by the bytes of its triple, one entry.
+abbrev oneRegion : List ℕ → ℕ → List ℕ
+oneRegion triple entry =
+    hvar
+    ++ (0 ∷ 1 ∷ 0 ∷ 0 ∷ 0 ∷ 0x0c ∷ 0 ∷ 1 ∷ 0 ∷ 0 ∷ 0 ∷ 0x16
+    ∷ 0 ∷ 1 ∷ 0 ∷ 1 ∷ [])
+    ++ triple
+    ++ (0 ∷ 1 ∷ 0 ∷ 0 ∷ 0 ∷ 1 ∷ 0 ∷ 0 ∷ entry ∷ [])
+
 -- S1: the triple 0, 16384, 16384; the entry 100.
 pub s1-font : List ℕ
-s1-font =
-    0 ∷ 0 ∷ 0 ∷ 0
-    ∷ 0 ∷ 1 ∷ 0 ∷ 0 ∷ 0 ∷ 0 ∷ 0 ∷ 0x10 ∷ 0 ∷ 0 ∷ 0 ∷ 0 ∷ 0 ∷ 0 ∷ 0 ∷ 0
-    ∷ 0 ∷ 1 ∷ 0 ∷ 0 ∷ 0 ∷ 0x0c ∷ 0 ∷ 1 ∷ 0 ∷ 0 ∷ 0 ∷ 0x16
-    ∷ 0 ∷ 1 ∷ 0 ∷ 1 ∷ 0 ∷ 0 ∷ 0x40 ∷ 0 ∷ 0x40 ∷ 0
-    ∷ 0 ∷ 1 ∷ 0 ∷ 0 ∷ 0 ∷ 1 ∷ 0 ∷ 0 ∷ 0x64
-    ∷ []
+s1-font = oneRegion (0 ∷ 0 ∷ 0x40 ∷ 0 ∷ 0x40 ∷ 0 ∷ []) 0x64
 
 -- S2: the triple 0, 12288, 16384; the entry 3.
 pub s2-font : List ℕ
-s2-font =
-    0 ∷ 0 ∷ 0 ∷ 0
-    ∷ 0 ∷ 1 ∷ 0 ∷ 0 ∷ 0 ∷ 0 ∷ 0 ∷ 0x10 ∷ 0 ∷ 0 ∷ 0 ∷ 0 ∷ 0 ∷ 0 ∷ 0 ∷ 0
-    ∷ 0 ∷ 1 ∷ 0 ∷ 0 ∷ 0 ∷ 0x0c ∷ 0 ∷ 1 ∷ 0 ∷ 0 ∷ 0 ∷ 0x16
-    ∷ 0 ∷ 1 ∷ 0 ∷ 1 ∷ 0 ∷ 0 ∷ 0x30 ∷ 0 ∷ 0x40 ∷ 0
-    ∷ 0 ∷ 1 ∷ 0 ∷ 0 ∷ 0 ∷ 1 ∷ 0 ∷ 0 ∷ 3
-    ∷ []
+s2-font = oneRegion (0 ∷ 0 ∷ 0x30 ∷ 0 ∷ 0x40 ∷ 0 ∷ []) 3
 
 -- S3: the triple -16384, 8192, 16384, which is skipped; the entry 3.
 pub s3-font : List ℕ
-s3-font =
-    0 ∷ 0 ∷ 0 ∷ 0
-    ∷ 0 ∷ 1 ∷ 0 ∷ 0 ∷ 0 ∷ 0 ∷ 0 ∷ 0x10 ∷ 0 ∷ 0 ∷ 0 ∷ 0 ∷ 0 ∷ 0 ∷ 0 ∷ 0
-    ∷ 0 ∷ 1 ∷ 0 ∷ 0 ∷ 0 ∷ 0x0c ∷ 0 ∷ 1 ∷ 0 ∷ 0 ∷ 0 ∷ 0x16
-    ∷ 0 ∷ 1 ∷ 0 ∷ 1 ∷ 0xc0 ∷ 0 ∷ 0x20 ∷ 0 ∷ 0x40 ∷ 0
-    ∷ 0 ∷ 1 ∷ 0 ∷ 0 ∷ 0 ∷ 1 ∷ 0 ∷ 0 ∷ 3
-    ∷ []
+s3-font = oneRegion (0xc0 ∷ 0 ∷ 0x20 ∷ 0 ∷ 0x40 ∷ 0 ∷ []) 3
 
 -- S4: two regions with S3's triple; the entries 32767, words.
 pub s4-font : List ℕ
 s4-font =
-    0 ∷ 0 ∷ 0 ∷ 0
-    ∷ 0 ∷ 1 ∷ 0 ∷ 0 ∷ 0 ∷ 0 ∷ 0 ∷ 0x10 ∷ 0 ∷ 0 ∷ 0 ∷ 0 ∷ 0 ∷ 0 ∷ 0 ∷ 0
-    ∷ 0 ∷ 1 ∷ 0 ∷ 0 ∷ 0 ∷ 0x0c ∷ 0 ∷ 1 ∷ 0 ∷ 0 ∷ 0 ∷ 0x1c
+    hvar
+    ++ (0 ∷ 1 ∷ 0 ∷ 0 ∷ 0 ∷ 0x0c ∷ 0 ∷ 1 ∷ 0 ∷ 0 ∷ 0 ∷ 0x1c
     ∷ 0 ∷ 1 ∷ 0 ∷ 2 ∷ 0xc0 ∷ 0 ∷ 0x20 ∷ 0 ∷ 0x40 ∷ 0 ∷ 0xc0 ∷ 0 ∷ 0x20 ∷ 0 ∷ 0x40 ∷ 0
     ∷ 0 ∷ 1 ∷ 0 ∷ 2 ∷ 0 ∷ 2 ∷ 0 ∷ 0 ∷ 0 ∷ 1 ∷ 0x7f ∷ 0xff ∷ 0x7f ∷ 0xff
-    ∷ []
+    ∷ [])
 
 -- S5: no regions.
 pub s5-font : List ℕ
 s5-font =
-    0 ∷ 0 ∷ 0 ∷ 0
-    ∷ 0 ∷ 1 ∷ 0 ∷ 0 ∷ 0 ∷ 0 ∷ 0 ∷ 0x10 ∷ 0 ∷ 0 ∷ 0 ∷ 0 ∷ 0 ∷ 0 ∷ 0 ∷ 0
-    ∷ 0 ∷ 1 ∷ 0 ∷ 0 ∷ 0 ∷ 0x0c ∷ 0 ∷ 1 ∷ 0 ∷ 0 ∷ 0 ∷ 0x10
+    hvar
+    ++ (0 ∷ 1 ∷ 0 ∷ 0 ∷ 0 ∷ 0x0c ∷ 0 ∷ 1 ∷ 0 ∷ 0 ∷ 0 ∷ 0x10
     ∷ 0 ∷ 1 ∷ 0 ∷ 0
     ∷ 0 ∷ 1 ∷ 0 ∷ 0 ∷ 0 ∷ 0
-    ∷ []
+    ∷ [])
 
--- H1: an advance map of three entries, then the store; one region with no axes, three rows.
-pub h1-font : List ℕ
-h1-font =
+-- H1: an advance map of three entries, then the store; one region with no axes, three rows. The offset of the map for bearings is left open.
+abbrev pub mapped : ℕ → List ℕ
+mapped bearings =
     0 ∷ 0 ∷ 0 ∷ 0
-    ∷ 0 ∷ 1 ∷ 0 ∷ 0 ∷ 0 ∷ 0 ∷ 0 ∷ 0x18 ∷ 0 ∷ 0 ∷ 0 ∷ 0x10 ∷ 0 ∷ 0 ∷ 0 ∷ 0
+    ∷ 0 ∷ 1 ∷ 0 ∷ 0 ∷ 0 ∷ 0 ∷ 0 ∷ 0x18 ∷ 0 ∷ 0 ∷ 0 ∷ 0x10 ∷ 0 ∷ 0 ∷ 0 ∷ bearings
     ∷ 0 ∷ 7 ∷ 0 ∷ 3 ∷ 0 ∷ 1 ∷ 2 ∷ 0
     ∷ 0 ∷ 1 ∷ 0 ∷ 0 ∷ 0 ∷ 0x0c ∷ 0 ∷ 1 ∷ 0 ∷ 0 ∷ 0 ∷ 0x10
     ∷ 0 ∷ 0 ∷ 0 ∷ 1
     ∷ 0 ∷ 3 ∷ 0 ∷ 0 ∷ 0 ∷ 1 ∷ 0 ∷ 0 ∷ 0x0a ∷ 0x0b ∷ 0x0c
     ∷ []
+
+pub h1-font : List ℕ
+h1-font = mapped 0
 
 pub S1 : (metricDelta s1-font 4 advance 0 (pos 8192 ∷ []) ≡ value (pos 3276800))
     × (metricDelta s1-font 4 advance 0 (pos 16384 ∷ []) ≡ value (pos 6553600))
@@ -118,12 +113,11 @@ S1-order = refl
 
 -- The second row of a subtable with one word: it starts behind the two bytes of the first.
 pub second-row : metricDelta
-    (0 ∷ 0 ∷ 0 ∷ 0
-    ∷ 0 ∷ 1 ∷ 0 ∷ 0 ∷ 0 ∷ 0 ∷ 0 ∷ 0x10 ∷ 0 ∷ 0 ∷ 0 ∷ 0 ∷ 0 ∷ 0 ∷ 0 ∷ 0
-    ∷ 0 ∷ 1 ∷ 0 ∷ 0 ∷ 0 ∷ 0x0c ∷ 0 ∷ 1 ∷ 0 ∷ 0 ∷ 0 ∷ 0x10
+    (hvar
+    ++ (0 ∷ 1 ∷ 0 ∷ 0 ∷ 0 ∷ 0x0c ∷ 0 ∷ 1 ∷ 0 ∷ 0 ∷ 0 ∷ 0x10
     ∷ 0 ∷ 0 ∷ 0 ∷ 1
     ∷ 0 ∷ 2 ∷ 0 ∷ 1 ∷ 0 ∷ 1 ∷ 0 ∷ 0 ∷ 0 ∷ 1 ∷ 0 ∷ 2
-    ∷ []) 4 advance 1 [] ≡ value (pos 131072)
+    ∷ [])) 4 advance 1 [] ≡ value (pos 131072)
 unfolding computing
 second-row = refl
 

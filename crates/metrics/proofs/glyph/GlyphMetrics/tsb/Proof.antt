@@ -1,45 +1,18 @@
 -- `metrics::glyph::GlyphMetrics::tsb` meets its contract. Assumes nothing.
-use mathlib.Core.Path.{refl}
 use mir.Syntax.{w16}
 use mir.ValLaws.{toZ-ofZ}
 use borrow.Author.Needs.{needs}
-use Rattle.metrics.proofs.Floats.{zero-float}
 use Rattle.metrics.proofs.glyph.GlyphMetrics.tsb.Statement.{statement}
 use Rattle.metrics.proofs.glyph.GlyphMetrics.tsb.Tie as tie
 
-enum-known-v : tie.Need-enum-known-v
-enum-known-v c = search needs
+int-to-float-upright : tie.Need-int-to-float-upright
+int-to-float-upright c = search needs
 
-varied-bearing-requires : tie.Need-varied-bearing-requires
-varied-bearing-requires c κs = search needs
-
-enum-known-v-2 : tie.Need-enum-known-v-2
-enum-known-v-2 c = search needs
-
-varied-bearing-requires-2 : tie.Need-varied-bearing-requires-2
-varied-bearing-requires-2 c κs = search needs
-
-enum-told : tie.Need-enum-told
-enum-told c = search needs
+upright-requires : tie.Need-upright-requires
+upright-requires c κs = search needs
 
 returns : tie.Need-returns
-returns c = rw (c .before .before .v .given .1) (rw (toZ-ofZ w16 _ (c .before .before .before .before .before .fits .unvaried)) at (c .varied-bearing .ensures))
-
-returns-2 : tie.Need-returns-2
-returns-2 c = rw (c .before .before .v2 .given .1) (rw (toZ-ofZ w16 _ (c .before .before .before .before .before .fits .unvaried)) at (c .varied-bearing2 .ensures))
-
-returns-3 : tie.Need-returns-3
-returns-3 c = rw (c .enum-told .given .1, zero-float) refl
+returns c = rw (toZ-ofZ w16 _ (c .before .before .before .fits .unvaried)) at (c .upright .ensures)
 
 pub tsb-spec : {M : Type 1} → statement M
-tsb-spec =
-    tie.close
-    (tie.spec
-    enum-known-v
-    varied-bearing-requires
-    enum-known-v-2
-    varied-bearing-requires-2
-    enum-told
-    returns
-    returns-2
-    returns-3)
+tsb-spec = tie.close (tie.spec int-to-float-upright upright-requires returns)

@@ -44,8 +44,11 @@ unfolding bigEndian
 below zero font p h = omega arith
 below (suc n) font p h = rw (pow-suc 256 n) (omega (arith, below n font p h, h (p + n)))
 
--- The same bytes in two fonts make the same number.
-pub same-bytes : (n : ℕ) (font other : List ℕ) (p : ℕ) → ((j : ℕ) → p ≤ j → j < p + n → getD font j 0 ≡ getD other j 0) → bigEndian n font p ≡ bigEndian n other p
+-- Two fonts have the same n bytes from p on: then these make the same number.
+abbrev pub SameBytes : ℕ → List ℕ → List ℕ → ℕ → Type 0
+SameBytes n font other p = (j : ℕ) → p ≤ j → j < p + n → getD font j 0 ≡ getD other j 0
+
+pub same-bytes : (n : ℕ) (font other : List ℕ) (p : ℕ) → SameBytes n font other p → bigEndian n font p ≡ bigEndian n other p
 unfolding bigEndian
 same-bytes zero font other p h = refl
 same-bytes (suc n) font other p h = rw (same-bytes n font other p (λ j l u. h j l (omega arith)), h (p + n) (omega arith) (omega arith))

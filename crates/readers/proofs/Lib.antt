@@ -6,3 +6,4 @@ pub mod Walk
 pub mod Lent
 pub mod One
 pub mod Passed
+pub mod TwoFonts

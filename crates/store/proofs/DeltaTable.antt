@@ -17,7 +17,7 @@ unfolding wrap32 times over unsignedAt signedAt bigEndian run turns walk tripleA
 computing = tt
 
 -- The fonts: four bytes, an HVAR without maps, whose store stands right behind it, at 20; the region list, and one subtable.
-abbrev hvar : List ℕ
+abbrev pub hvar : List ℕ
 hvar = 0 ∷ 0 ∷ 0 ∷ 0 ∷ 0 ∷ 1 ∷ 0 ∷ 0 ∷ 0 ∷ 0 ∷ 0 ∷ 0x10 ∷ 0 ∷ 0 ∷ 0 ∷ 0 ∷ 0 ∷ 0 ∷ 0 ∷ 0 ∷ []
 
 -- One axis, one region by the bytes of its triple, one entry.
@@ -30,19 +30,19 @@ oneRegion triple entry =
     ++ (0 ∷ 1 ∷ 0 ∷ 0 ∷ 0 ∷ 1 ∷ 0 ∷ 0 ∷ entry ∷ [])
 
 -- S1: the triple 0, 16384, 16384; the entry 100.
-pub s1-font : List ℕ
+unfoldable pub s1-font : List ℕ
 s1-font = oneRegion (0 ∷ 0 ∷ 0x40 ∷ 0 ∷ 0x40 ∷ 0 ∷ []) 0x64
 
 -- S2: the triple 0, 12288, 16384; the entry 3.
-pub s2-font : List ℕ
+unfoldable pub s2-font : List ℕ
 s2-font = oneRegion (0 ∷ 0 ∷ 0x30 ∷ 0 ∷ 0x40 ∷ 0 ∷ []) 3
 
 -- S3: the triple -16384, 8192, 16384, which is skipped; the entry 3.
-pub s3-font : List ℕ
+unfoldable pub s3-font : List ℕ
 s3-font = oneRegion (0xc0 ∷ 0 ∷ 0x20 ∷ 0 ∷ 0x40 ∷ 0 ∷ []) 3
 
 -- S4: two regions with S3's triple; the entries 32767, words.
-pub s4-font : List ℕ
+unfoldable pub s4-font : List ℕ
 s4-font =
     hvar
     ++ (0 ∷ 1 ∷ 0 ∷ 0 ∷ 0 ∷ 0x0c ∷ 0 ∷ 1 ∷ 0 ∷ 0 ∷ 0 ∷ 0x1c
@@ -51,7 +51,7 @@ s4-font =
     ∷ [])
 
 -- S5: no regions.
-pub s5-font : List ℕ
+unfoldable pub s5-font : List ℕ
 s5-font =
     hvar
     ++ (0 ∷ 1 ∷ 0 ∷ 0 ∷ 0 ∷ 0x0c ∷ 0 ∷ 1 ∷ 0 ∷ 0 ∷ 0 ∷ 0x10
@@ -70,7 +70,7 @@ mapped bearings =
     ∷ 0 ∷ 3 ∷ 0 ∷ 0 ∷ 0 ∷ 1 ∷ 0 ∷ 0 ∷ 0x0a ∷ 0x0b ∷ 0x0c
     ∷ []
 
-pub h1-font : List ℕ
+unfoldable pub h1-font : List ℕ
 h1-font = mapped 0
 
 pub S1 : (metricDelta s1-font 4 advance 0 (pos 8192 ∷ []) ≡ value (pos 3276800))

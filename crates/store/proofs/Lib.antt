@@ -3,6 +3,10 @@ pub mod DeltaTable
 pub mod MvarTable
 pub mod Triples
 pub mod Scalars
+pub mod Alike
+pub mod Moved
+pub mod Demand3
+pub mod FootprintTable
 pub mod Entries
 pub mod Search
 pub mod Records

@@ -8,7 +8,7 @@ use Rattle.store.specs.Mvar.{headerAt, indexIn, searchIn, find, tagDelta
 use Rattle.store.proofs.DeltaTable.{computing}
 
 -- What an example unfolds beside what those of the store do.
-opening : Unit {0}
+unfoldable pub opening : Unit {0}
 unfolding computing headerAt indexIn searchIn find tagDelta mvarDelta
 opening = tt
 
@@ -37,7 +37,7 @@ store =
     ∷ []
 
 -- Two bytes, and the MVAR from 2 on; the same with its records the other way round.
-abbrev sorted : List ℕ
+abbrev pub sorted : List ℕ
 sorted = 0xff ∷ 0xff ∷ header ++ hascRecord ++ hdscRecord ++ store
 
 abbrev unsorted : List ℕ
@@ -51,13 +51,13 @@ empty = 0 ∷ 1 ∷ 0 ∷ 0 ∷ 0 ∷ 0 ∷ 0 ∷ 8 ∷ 0 ∷ 0 ∷ []
 abbrev half : List ℤ
 half = pos 0x2000 ∷ []
 
-abbrev hasc : ℕ
+abbrev pub hasc : ℕ
 hasc = 0x6861_7363
 
 abbrev hdsc : ℕ
 hdsc = 0x6864_7363
 
-abbrev xhgt : ℕ
+abbrev pub xhgt : ℕ
 xhgt = 0x7868_6774
 
 pub both-tags : (mvarDelta sorted 2 hasc half ≡ value (pos 655360)) × (mvarDelta sorted 2 hdsc half ≡ value (negsuc 3276799))

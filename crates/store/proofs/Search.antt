@@ -3,7 +3,7 @@ use Prim.Native.Nat.{ℕ, zero, suc, _+_, _*_, _/_, _-_, _^_, _≤_, _<_}
 use mathlib.Core.Path.{_≡_, refl, ap, sym, _∙_}
 use mathlib.Core.Bool.{Bool, true, false, cond}
 use mathlib.Core.List.{List}
-use native.Mathlib.Nat.{mul-le-mul, mul-le-mul-right}
+use native.Mathlib.Nat.{mul-le-mul}
 use native.Mathlib.Omega.{arith}
 use borrow.Author.Tests.{lt-ltb, le-ltb, ltb-true}
 use lib.Dec.{ltb}
@@ -59,26 +59,25 @@ of-either font true d e a q f g = f q
 of-either font false d e a q f g = g q
 
 module _ (font : List ℕ) (size tag : ℕ) where
-  -- A record that is found starts at or before where record h would.
-  found-near : (k l h p : ℕ) → run font (searchIn size tag k l h) ≡ value p → p ≤ recordStart size h
+  -- What is found is the start of a record below h.
+  pub found-record : (k l h p : ℕ) → run font (searchIn size tag k l h) ≡ value p → (i : ℕ) × (i < h) × (p ≡ recordStart size i)
   unfolding searchIn unsignedAt
-  found-near zero l h p e =
+  found-record zero l h p e =
       let clash = declined font 4 ∙ e in
-      let any : p ≡ 0 = cc in
-      omega (arith, any)
-  found-near (suc k) l h p e =
-      let i = (l + h) / 2 in
+      let z : _≡_ {A = ℕ} 0 1 = cc in absurd (omega (arith, z))
+  found-record (suc k) l h p e =
+      let i : ℕ = (l + h) / 2 in
       let held = test-held font (ltb l h) 4 _ p e in
-      let below : i ≤ h = omega (arith, ltb-true l h (held .0)) in
-      let near : i * size ≤ h * size = mul-le-mul-right size below in
-      let at = recordStart size i in
-      let valueTag = bigEndian 4 font at in
-      of-either font (ltb tag valueTag) _ _ p (bytes-there font 4 at _ p (held .1) .1) (λ q. omega (arith, found-near k l i p q)) λ q.
-      of-either font (ltb valueTag tag) _ _ p q (λ s. found-near k (i + 1) h p s) λ s.
-      omega (arith, answer-is font at p s)
+      let below : i < h = omega (arith, ltb-true l h (held .0)) in
+      let at : ℕ = recordStart size i in
+      let valueTag : ℕ = bigEndian 4 font at in
+      of-either font (ltb tag valueTag) _ _ p (bytes-there font 4 at _ p (held .1) .1) (λ q. let (j, low, start) = found-record k l i p q in (j, omega arith, start)) λ q.
+      of-either font (ltb valueTag tag) _ _ p q (λ s. found-record k (i + 1) h p s) λ s.
+      (i, below, sym (answer-is font at p s))
 
   -- So it starts far below where a sum would wrap.
   pub found-small : (count store p : ℕ) {r : Found} → size < 2 ^ 16 → count < 2 ^ 16 → foundOutcome r ≡ run font (find (headerOf size count store) tag) → r ≡ F.At p → p ≤ 12 + 65535 * 65535
   unfolding find
   found-small count store p s n e q =
-      omega (arith, found-near count 0 count p (sym e ∙ ap foundOutcome q), product-small count size n s)
+      let (i, low, start) = found-record count 0 count p (sym e ∙ ap foundOutcome q) in
+      omega (arith, product-small i size (omega arith) s)

@@ -1,10 +1,12 @@
 -- A region's triple: its six bytes, its order, and the differences of its numbers. Assumes nothing.
-use mathlib.Core.Path.{_≡_, refl, ap, sym}
+use mathlib.Core.Path.{_≡_, refl, ap, sym, _∙_}
 use mathlib.Core.Bool.{Bool, true, false, _||_}
 use mathlib.Core.List.{List}
 use Prim.Native.Nat.{ℕ, _+_, _*_, _%_, _^_, _≤_, _<_}
 use native.Mathlib.Omega.{arith}
+use borrow.Author.Tests.{leb-true, leb-false}
 use lib.ListN.{length}
+use lib.Dec.{leb}
 use lib.IntN.{ℤ, pos, negsuc, _-ℤ_}
 use lib.Signed.{mag, ltZ}
 use mir.Syntax.{w16}
@@ -12,10 +14,11 @@ use mir.Val.{toZ}
 use Rattle.numbers.specs.Numbers.{modZ}
 use Rattle.numbers.proofs.Gaps.{gap, nlt-gap, gap-minus}
 use Rattle.readers.specs.Outcome.{Outcome, value, refused}
-use Rattle.readers.specs.Reading.{Reading, _>>=_, unsignedAt, signedAt, bigEndian, run}
-use Rattle.readers.proofs.Bytes.{present, missing}
+use Rattle.readers.specs.Reading.{Reading, answer, _>>=_, unsignedAt, signedAt, bigEndian, run}
+use Rattle.readers.proofs.Bytes.{present, missing, SameBytes}
 use Rattle.readers.proofs.Passed.{bytes-there, cut-later}
 use Rattle.readers.proofs.Reading.{took-by, stop-by}
+use Rattle.readers.proofs.TwoFonts.{read-same, answer-same}
 use Rattle.store.specs.Region.{Triple, tripleAt, coordinate, skipped, Tent, tentAt, under, axisTurn}
 use Rattle.store.specs.RegionAnswers.{axisOutcome}
 use Rattle.store.specs.declared.region.AxisAnswer.{AxisAnswer}
@@ -44,6 +47,32 @@ module _ {A : Type 0} (font : List ℕ) (p : ℕ) (k : Triple → Reading A) whe
   pub triple-was : (a : A) → run font (tripleAt p >>= k) ≡ value a → run font (k (tripleIn font p)) ≡ value a
   unfolding tripleAt signedAt unsignedAt
   triple-was a e = bytes-there font 2 (p + 4) _ a (bytes-there font 2 (p + 2) _ a (bytes-there font 2 p _ a e .1) .1) .1
+
+-- A triple that was read is whole.
+pub triple-whole : (font : List ℕ) (p : ℕ) (t : Triple) → run font (tripleAt p) ≡ value t → p + 6 ≤ length font
+unfolding tripleAt signedAt unsignedAt
+triple-whole font p t e = omega (arith, bytes-there font 2 (p + 4) _ t (bytes-there font 2 (p + 2) _ t (bytes-there font 2 p _ t e .1) .1) .0)
+
+-- Two fonts of one length have the same triple, if its bytes are the same where it is whole.
+module _ (f g : List ℕ) (p : ℕ) (len : length f ≡ length g) where
+  both-whole : SameBytes 6 f g p → run f (tripleAt p) ≡ run g (tripleAt p)
+  unfolding tripleAt signedAt unsignedAt
+  both-whole h =
+      read-same f g 2 p _ _ len (λ w j l u. h j l (omega arith)) λ start.
+      read-same f g 2 (p + 2) _ _ len (λ w j l u. h j (omega arith) (omega arith)) λ peak.
+      read-same f g 2 (p + 4) _ _ len (λ w j l u. h j (omega arith) (omega arith)) λ end.
+      answer-same f g _
+
+  both-cut : length f < p + 6 → run f (tripleAt p) ≡ run g (tripleAt p)
+  unfolding tripleAt signedAt unsignedAt
+  both-cut h = sym (triple-cut f p answer h) ∙ triple-cut g p answer (rw len at h)
+
+  pub triple-same : (p + 6 ≤ length f → SameBytes 6 f g p) → run f (tripleAt p) ≡ run g (tripleAt p)
+  triple-same h = go (leb (p + 6) (length f)) refl
+    where
+      go : (b : Bool) → leb (p + 6) (length f) ≡ b → run f (tripleAt p) ≡ run g (tripleAt p)
+      go true e = both-whole (h (leb-true (p + 6) (length f) e))
+      go false e = both-cut (leb-false (p + 6) (length f) e)
 
 -- ---- an axis of a region, by what `axis_at` answers
 

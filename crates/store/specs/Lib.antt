@@ -7,3 +7,4 @@ pub mod Metric
 pub mod MetricAnswers
 pub mod Mvar
 pub mod MvarAnswers
+pub mod Footprint

@@ -99,3 +99,8 @@ pub listed : (settingsCount n1-table (headerOf n1-table) [] 0 tags values 3 ≡ 
     × (settingsCoords n1-table (headerOf n1-table) [] 0 tags values marks ≡ pos 8192 ∷ pos 77 ∷ pos 77 ∷ [])
 unfolding n1-table tags values marks wrap32 wrap16 minus negated toF2dot14 over ofFloat ofBits add mul toSigned unsignedAt signedAt bigEndian run turns walk fill fieldAt headerOf axisRecord axis adjusted clamped fraction fromDefault normalizedCoord coordTurn passed counted coordsIn settingTurn axisCoord settingCoord settingsCount settingsCoords
 listed = (refl, refl)
+
+-- Any map is applied, also one that lacks the three fixed points that OpenType asks for: here the one pair 0:0.25, at 0.
+pub any-map-applied : toF2dot14 (adjusted (0 ∷ 0 ∷ 0 ∷ 0 ∷ 0 ∷ 1 ∷ 0 ∷ 0 ∷ 0 ∷ 0 ∷ 0 ∷ 1 ∷ 0 ∷ 1 ∷ 0 ∷ 0 ∷ 0x10 ∷ 0 ∷ []) 4 0 (pos 0)) ≡ pos 4096
+unfolding wrap32 wrap16 plus minus toF2dot14 over timesOver unsignedAt signedAt bigEndian run turns walk mapTurn mapAt segmentMap pairAt between pairTurn noPair applied adjusted
+any-map-applied = refl

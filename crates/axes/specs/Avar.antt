@@ -1,4 +1,5 @@
--- avar: the segment map of an axis, applied in 16.16 (OpenType, "avar — Axis Variations Table"; document 01, "fvar and normalising").
+-- avar: the segment map of an axis, applied in 16.16 (OpenType, "avar — Axis Variations Table"; document 01, "fvar and normalising", whose rule decides (D): any map is applied, also one that
+-- lacks OpenType's three fixed points).
 use Prim.Native.Nat.{ℕ, _+_, _*_}
 use mathlib.Core.Bool.{cond}
 use mathlib.Core.List.{List}
@@ -16,19 +17,20 @@ pub record SegmentMap : Type 0 where
   pub axisValueMaps : ℕ
   pub positionMapCount : ℕ
 
--- The map of an axis: one count and its pairs for each axis, from 8 on. The whole map must be there, and of the earlier ones only what
--- leads past them; the later ones are not looked at.
+-- Past the map of an earlier axis, at p: of that only the count is looked at.
 unfoldable pub mapTurn : Turn ℕ (Reading SegmentMap)
 mapTurn i p next = do
   positionMapCount ← unsignedAt 2 p
   next (p + 2 + 4 * positionMapCount)
 
+-- The map at p: all of its pairs must be there.
 unfoldable pub mapAt : ℕ → Reading SegmentMap
 mapAt p = do
   positionMapCount ← unsignedAt 2 p
   there (4 * positionMapCount) (p + 2)
   answer (record { axisValueMaps = p + 2; positionMapCount = positionMapCount })
 
+-- The map of an axis: from 8 on, for each axis a count and its pairs. Why it can't be had is not told: `adjusted` then leaves the value.
 unfoldable pub segmentMap : ℕ → ℕ → Reading SegmentMap
 segmentMap avar axis = do
   axisCount ← unsignedAt 2 (avar + 6)

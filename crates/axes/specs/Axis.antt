@@ -1,4 +1,4 @@
--- An axis, and a value of it normalised (OpenType, "fvar", "VariationAxisRecord" and "Coordinate scales and normalization"; document 01, "fvar and normalising").
+-- An axis (OpenType, fvar, "VariationAxisRecord"), and a value of it normalised (font variations overview, "Coordinate scales and normalization"; document 01, "fvar and normalising").
 use Prim.Native.Nat.{ℕ, _*_, _%_}
 use mathlib.Core.Bool.{Bool, true, false, cond, not, _&&_, _||_}
 use mathlib.Core.List.{List}

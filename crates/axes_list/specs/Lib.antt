@@ -1,1 +1,2 @@
+-- What the contracts of `axes_list` cite.
 pub mod AxisText

@@ -3,6 +3,7 @@ pub mod Bits
 pub mod Signs
 pub mod Scaled
 pub mod Floats
+pub mod NoNan
 pub mod Gaps
 pub mod Laws
 pub mod Table

@@ -3,9 +3,9 @@ pub mod DeltaTable
 pub mod MvarTable
 pub mod Triples
 pub mod Scalars
-pub mod Alike
+pub mod SameParts
 pub mod Moved
-pub mod Demand3
+pub mod HangsOn
 pub mod FootprintTable
 pub mod Entries
 pub mod Search

@@ -30,8 +30,8 @@ pub record DeltaSet : Type 0 where
 abbrev pub deltaSetOf : ℕ → ℕ → DeltaSet
 deltaSetOf innerBits entry = record { outer = entry / 2 ^ innerBits % 2 ^ 16; inner = entry % 2 ^ innerBits }
 
--- DeltaSetIndexMap at p; its first two bytes are OpenType 1.9's format and entryFormat. Inner bits: the low 4 bits plus 1; entry bytes: bits 4 and 5 plus 1. A glyph at or past the count uses
--- the last entry.
+-- DeltaSetIndexMap at p. Document 01's format is 16 bits, OpenType 1.9's format (the high byte) and entryFormat: of these, inner bits are the low 4 bits plus 1, entry bytes are bits 4 and 5 plus 1. A glyph
+-- at or past the count uses the last entry.
 unfoldable pub mapEntry : ℕ → ℕ → Reading DeltaSet
 mapEntry p glyph = do
   format ← unsignedAt 2 p
@@ -42,7 +42,7 @@ mapEntry p glyph = do
   entry ← unsignedAt entrySize (p + 4 + entrySize * min glyph (mapCount - 1))
   answer (deltaSetOf innerBits entry)
 
--- With no map: for an advance outer 0, inner the glyph; a bearing has no delta.
+-- With no map: for an advance outer 0, inner the glyph; for a bearing refusal 1.
 abbrev pub unmapped : Measure → ℕ → Reading DeltaSet
 unmapped advance glyph = answer (record { outer = 0; inner = glyph })
 unmapped bearing glyph = refuse 1

@@ -38,7 +38,8 @@ indexIn p = do
   outer ← unsignedAt 2 (p + 6)
   answer (record { outer = outer; inner = inner })
 
--- The halving search from l up to h, with at most k turns left: where the record of a tag starts. Unsorted records answer as it goes.
+-- The halving search from l up to h, with at most k turns left: where the record of a tag starts. Unsorted records answer as it goes. Each turn leaves at least one record less between l
+-- and h, so that as many turns as there are records are enough.
 unfoldable pub searchIn : ℕ → ℕ → ℕ → ℕ → ℕ → Reading ℕ
 searchIn size tag zero l h = refuse 4
 searchIn size tag (suc k) l h = do

@@ -19,7 +19,7 @@ use Rattle.store.specs.Footprint.{Part, bytes, triple, uses, rowParts, i
 use Rattle.store.proofs.Triples.{triple-same}
 use Rattle.store.proofs.Search.{found-record}
 use Rattle.store.proofs.Moved.{over-moved, uses-moved}
-use Rattle.store.proofs.Alike.{Alike, Same, later, here, bind-same, scalar-same, row-same}
+use Rattle.store.proofs.SameParts.{Alike, Same, later, here, bind-same, scalar-same, row-same}
 
 -- ---- the store
 

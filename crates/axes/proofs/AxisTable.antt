@@ -1,76 +1,19 @@
--- Document 01's examples N1 to N3 and A1, computed by the definitions that the contracts cite. Assumes nothing.
+-- A coordinate list and an avar map, computed by the definitions that the contracts cite. (Document 01's examples N1 to N3 and A1 stand in one table, in the crate `examples`.) Assumes nothing.
 use mathlib.Core.Path.{_≡_, refl}
 use mathlib.Core.List.{List, [], _∷_}
 use Prim.Native.Nat.{ℕ}
-use lib.IntN.{ℤ, pos, negsuc}
+use lib.IntN.{ℤ, pos}
 use lib.Ieee.{Float, binary32, ofBits, add, mul, toSigned}
-use Rattle.numbers.specs.Numbers.{wrap32, wrap16, plus, minus, negated, fromInteger, fromF2dot14, toF2dot14, over, timesOver}
+use Rattle.numbers.specs.Numbers.{wrap32, wrap16, plus, minus, negated, toF2dot14, over, timesOver}
 use Rattle.numbers.specs.Floats.{ofFloat}
-use Rattle.readers.specs.Outcome.{Outcome, value, refused}
+use Rattle.readers.specs.Outcome.{value}
 use Rattle.readers.specs.Reading.{unsignedAt, signedAt, bigEndian, run}
 use Rattle.readers.specs.Walk.{turns, walk}
 use Rattle.readers.specs.Lent.{fill}
 use Rattle.axes.specs.Avar.{mapTurn, mapAt, segmentMap, pairAt, between, pairTurn, noPair, applied, adjusted}
 use Rattle.axes.specs.Fvar.{fieldAt, headerOf, axisRecord, axis}
 use Rattle.axes.specs.Variation.{coordTurn, passed, counted, coordsIn, settingTurn, axisCoord, settingCoord, settingsCount, settingsCoords}
-use Rattle.axes.specs.Axis.{Axis, clamped, fraction, fromDefault, normalizedCoord}
-
--- An axis by min, default and max, and a value of it normalised without avar.
-abbrev ranged : ℤ → ℤ → ℤ → Axis
-ranged min default max = record {
-  index = 0;
-  axisTag = 0;
-  minValue = min;
-  defaultValue = default;
-  maxValue = max;
-  flags = 0;
-  axisNameID = 0;
-}
-
-abbrev normalized : Axis → ℤ → Outcome ℤ
-normalized = normalizedCoord [] 0
-
--- N1's axis, 100/400/900, and a value of it in units.
-n1 : ℤ → Outcome ℤ
-n1 v = normalized (ranged (fromInteger (pos 100)) (fromInteger (pos 400)) (fromInteger (pos 900))) (fromInteger v)
-
--- An avar at 2, of two axes: the first has no pairs, the second A1's: -1:-1, 0:0, 0.5:0.25, 1:1.
-a1 : List ℕ
-a1 =
-    0xff ∷ 0xff
-    ∷ 0 ∷ 1 ∷ 0 ∷ 0 ∷ 0 ∷ 0 ∷ 0 ∷ 2
-    ∷ 0 ∷ 0
-    ∷ 0 ∷ 4
-    ∷ 0xc0 ∷ 0 ∷ 0xc0 ∷ 0
-    ∷ 0 ∷ 0 ∷ 0 ∷ 0
-    ∷ 0x20 ∷ 0 ∷ 0x10 ∷ 0
-    ∷ 0x40 ∷ 0 ∷ 0x40 ∷ 0
-    ∷ []
-
-pub computed : List (Outcome ℤ)
-unfolding n1 a1 fromInteger wrap32 wrap16 plus minus negated toF2dot14 over timesOver unsignedAt signedAt bigEndian run turns walk mapTurn mapAt segmentMap pairAt between pairTurn noPair applied adjusted clamped fraction fromDefault normalizedCoord
-computed =
-    -- N1: 650; 300; 50; 400
-    n1 (pos 650) ∷ n1 (pos 300) ∷ n1 (pos 50) ∷ n1 (pos 400)
-    -- N2: axis 0/0/0, 5
-    ∷ normalized (ranged (pos 0) (pos 0) (pos 0)) (pos 5)
-    -- N3: raw min -2147483648, default 0, max 0, value = min
-    ∷ normalized (ranged (negsuc 0x7fff_ffff) (pos 0) (pos 0)) (negsuc 0x7fff_ffff)
-    -- A1: 4096
-    ∷ value (toF2dot14 (adjusted a1 2 1 (fromF2dot14 (pos 4096))))
-    ∷ []
-
-pub expected : List (Outcome ℤ)
-expected =
-    value (pos 8192) ∷ value (negsuc 5460) ∷ value (negsuc 16383) ∷ value (pos 0)
-    ∷ value (pos 0)
-    ∷ refused 5
-    ∷ value (pos 2048)
-    ∷ []
-
-pub table : computed ≡ expected
-unfolding computed expected
-table = refl
+use Rattle.axes.specs.Axis.{clamped, fraction, fromDefault, normalizedCoord}
 
 -- N1 as a coordinate list: document 01's example fvar, its axis set to 300 and then to 650, and a lent list of three marks. A later setting wins; elements
 -- beyond the count stay.

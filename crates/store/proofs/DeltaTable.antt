@@ -1,15 +1,15 @@
--- Document 01's examples S1 to S5 and H1, computed by the definitions that the contracts cite. Assumes nothing.
+-- The fonts of document 01's examples S1 to S5 and H1, which stand in one table in the crate `examples`; and examples that tell the definitions from near ones, computed. Assumes nothing.
 use mathlib.Core.Path.{_≡_, refl}
 use mathlib.Core.List.{List, [], _∷_, _++_}
 use Prim.Native.Nat.{ℕ}
-use lib.IntN.{ℤ, pos, negsuc}
+use lib.IntN.{pos, negsuc}
 use Rattle.numbers.specs.Numbers.{wrap32, times, over}
 use Rattle.readers.specs.Outcome.{value, refused}
 use Rattle.readers.specs.Reading.{Reading, answer, refuse, tested, bytesAt, unsignedAt, signedAt, bigEndian, run}
 use Rattle.readers.specs.Walk.{turns, walk}
 use Rattle.store.specs.Region.{tripleAt, skipped, tent, tentAt, axisTurn, regionScalar}
 use Rattle.store.specs.Item.{regionList, rowAt, itemAt, regionIndexAt, deltaAt, rowTurn, rowSum, itemSum, deltaIn}
-use Rattle.store.specs.Metric.{advance, bearing, mapEntry, storeOf, deltaSetAt, metricDelta}
+use Rattle.store.specs.Metric.{advance, bearing, deltaSetOf, mapEntry, storeOf, deltaSetAt, metricDelta}
 
 -- What every example unfolds.
 unfoldable pub computing : Unit {0}
@@ -73,26 +73,19 @@ mapped bearings =
 unfoldable pub h1-font : List ℕ
 h1-font = mapped 0
 
-pub S1 : (metricDelta s1-font 4 advance 0 (pos 8192 ∷ []) ≡ value (pos 3276800))
-    × (metricDelta s1-font 4 advance 0 (pos 16384 ∷ []) ≡ value (pos 6553600))
-    × (metricDelta s1-font 4 advance 0 (pos 0 ∷ []) ≡ value (pos 0))
-    × (metricDelta s1-font 4 advance 0 (negsuc 0 ∷ []) ≡ value (pos 0))
+-- S1 at 8192, half way up: refused by no number, and not 0.
+pub half-way-up : metricDelta s1-font 4 advance 0 (pos 8192 ∷ []) ≡ value (pos 3276800)
 unfolding computing s1-font
-S1 = (refl, refl, refl, refl)
+half-way-up = refl
 
 -- Its bearing has no map.
 pub S1-bearing : metricDelta s1-font 4 bearing 0 (pos 8192 ∷ []) ≡ refused 1
 unfolding computing s1-font
 S1-bearing = refl
 
-pub S2 : metricDelta s2-font 4 advance 0 (pos 4096 ∷ []) ≡ value (pos 65535)
-unfolding computing s2-font
-S2 = refl
-
--- The scalar by itself, at any coordinates, since the triple is skipped; and three times it, where the coordinate is missing.
-pub S3 : ((coords : List ℤ) → run s3-font (regionScalar coords 1 36) ≡ value (pos 65536)) × (metricDelta s3-font 4 advance 0 [] ≡ value (pos 196608))
-unfolding computing s3-font
-S3 = (λ coords. refl, refl)
+-- With 4 bits for the inner index: those are low.
+pub entry-bits : deltaSetOf 4 0x35 ≡ record { outer = 3; inner = 5 }
+entry-bits = refl
 
 -- The sum of the two offsets is tested before the map's offset is read, which is cut here.
 pub sum-before-map : metricDelta (0 ∷ 0 ∷ 0 ∷ 0 ∷ 0 ∷ 1 ∷ 0 ∷ 0 ∷ 0xff ∷ 0xff ∷ 0xff ∷ 0xfc ∷ []) 4 advance 0 [] ≡ refused 5
@@ -125,20 +118,3 @@ second-row = refl
 pub cut-triple : (run (0 ∷ 0 ∷ 0x40 ∷ 0 ∷ 0x40 ∷ 0 ∷ []) (regionScalar (negsuc 0 ∷ []) 2 0) ≡ value (pos 0)) × (run (0 ∷ 0 ∷ 0x40 ∷ 0 ∷ 0x40 ∷ 0 ∷ []) (regionScalar (pos 0 ∷ []) 2 0) ≡ refused 2)
 unfolding computing
 cut-triple = (refl, refl)
-
-pub S4 : metricDelta s4-font 4 advance 0 [] ≡ value (negsuc 131071)
-unfolding computing s4-font
-S4 = refl
-
-pub S5 : metricDelta s5-font 4 advance 0 [] ≡ value (pos 0)
-unfolding computing s5-font
-S5 = refl
-
--- Glyphs 0 and 1 use their own entries; 2, 3 and 65535 use entry 2.
-pub H1 : (metricDelta h1-font 4 advance 0 [] ≡ value (pos 655360))
-    × (metricDelta h1-font 4 advance 1 [] ≡ value (pos 720896))
-    × (metricDelta h1-font 4 advance 2 [] ≡ value (pos 786432))
-    × (metricDelta h1-font 4 advance 3 [] ≡ value (pos 786432))
-    × (metricDelta h1-font 4 advance 65535 [] ≡ value (pos 786432))
-unfolding computing h1-font
-H1 = (refl, refl, refl, refl, refl)

@@ -1,0 +1,7 @@
+-- Document 01's examples as one table; further inputs, by subject, on which a plausible mistake gives another answer.
+pub mod Written
+pub mod Table
+pub mod Numbers
+pub mod Readers
+pub mod Axes
+pub mod Store

@@ -1,0 +1,1 @@
+// No code: what stands here is in proofs/.

@@ -6,5 +6,5 @@ pub mod Floats
 pub mod NoNan
 pub mod Gaps
 pub mod Laws
-pub mod Table
+pub mod Examples
 pub mod One

@@ -9,11 +9,11 @@ use Rattle.readers.specs.Reading.{Reading, answer, refuse, tested, bytesAt, uns
 use Rattle.readers.specs.Walk.{turns, walk}
 use Rattle.store.specs.Region.{tripleAt, skipped, tent, tentAt, axisTurn, regionScalar}
 use Rattle.store.specs.Item.{regionList, rowAt, itemAt, regionIndexAt, deltaAt, rowTurn, rowSum, itemSum, deltaIn}
-use Rattle.store.specs.Metric.{advance, bearing, deltaSetOf, mapEntry, storeOf, deltaSetAt, metricDelta}
+use Rattle.store.specs.Metric.{advance, bearing, deltaSetIndexOf, mapEntry, storeOf, deltaSetIndexAt, metricDelta}
 
 -- What every example unfolds.
 unfoldable pub computing : Unit {0}
-unfolding wrap32 times over unsignedAt signedAt bigEndian run turns walk tripleAt skipped tent tentAt axisTurn regionScalar regionList rowAt itemAt regionIndexAt deltaAt rowTurn rowSum itemSum deltaIn mapEntry storeOf deltaSetAt metricDelta
+unfolding wrap32 times over unsignedAt signedAt bigEndian run turns walk tripleAt skipped tent tentAt axisTurn regionScalar regionList rowAt itemAt regionIndexAt deltaAt rowTurn rowSum itemSum deltaIn mapEntry storeOf deltaSetIndexAt metricDelta
 computing = tt
 
 -- The fonts: four bytes, an HVAR without maps, whose store stands right behind it, at 20; the region list, and one subtable.
@@ -84,7 +84,7 @@ unfolding computing s1-font
 S1-bearing = refl
 
 -- With 4 bits for the inner index: those are low.
-pub entry-bits : deltaSetOf 4 0x35 ≡ record { outer = 3; inner = 5 }
+pub entry-bits : deltaSetIndexOf 4 0x35 ≡ record { outer = 3; inner = 5 }
 entry-bits = refl
 
 -- The sum of the two offsets is tested before the map's offset is read, which is cut here.

@@ -13,7 +13,7 @@ use Rattle.readers.specs.Reading.{Reading, unsignedAt, run, _>>=_}
 use Rattle.readers.specs.Walk.{each}
 use Rattle.readers.proofs.TwoFonts.{then-same, read-same, test-same, choice-same, answer-same, refuse-same}
 use Rattle.store.specs.Item.{Item, regionStart, itemAt, itemSum, deltaIn, itemDelta}
-use Rattle.store.specs.Metric.{Measure, storeOf, deltaSetAt, metricDelta, floatOf}
+use Rattle.store.specs.Metric.{Measure, storeOf, deltaSetIndexAt, metricDelta, floatOf}
 use Rattle.store.specs.Mvar.{Header, headerAt, recordStart, indexIn, searchIn, find, tagDelta, mvarDelta}
 use Rattle.store.specs.Footprint.{Part, bytes, triple, uses, rowParts, itemFootprint, metricFootprint, recordPart, records, found, mvarParts, moved, mvarFootprint, EqualOver, EqualOn, HangsOn}
 use Rattle.store.proofs.Triples.{triple-same}
@@ -59,7 +59,7 @@ pub metric-hangs-on : (base : ℕ) (measure : Measure) (glyph : ℕ) → HangsOn
 unfolding metricDelta metricFootprint
 metric-hangs-on base measure glyph f g c d len = conclude f g c d len _ _ _ _
     (bind-same f g c d len (storeOf base) _ _ _ _ λ store e.
-    bind-same f g c d len (deltaSetAt base measure glyph) _ _ _ _ λ index v.
+    bind-same f g c d len (deltaSetIndexAt base measure glyph) _ _ _ _ λ index v.
     delta-same f g c d len store (index .outer) (index .inner))
 
 -- ---- an MVAR tag

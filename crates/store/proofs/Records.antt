@@ -9,17 +9,17 @@ use Rattle.readers.specs.declared.Refusal.{Refusal}
 use Rattle.readers.specs.declared.Half.{Half}
 use Rattle.readers.specs.declared.Half.the-variants as H
 use Rattle.readers.proofs.Reading.{run-nested, took16, stop16}
-use Rattle.store.specs.Metric.{DeltaSet}
+use Rattle.store.specs.Metric.{DeltaSetIndex}
 use Rattle.store.specs.Mvar.{indexIn}
 
-abbrev both : ℕ → ℕ → Reading DeltaSet
+abbrev both : ℕ → ℕ → Reading DeltaSetIndex
 both inner outer = answer (record { outer = outer; inner = inner })
 
 -- What is left to read of the index at p once the inner one is known.
-abbrev outerIn : ℕ → ℕ → Reading DeltaSet
+abbrev outerIn : ℕ → ℕ → Reading DeltaSetIndex
 outerIn p inner = unsignedAt 2 (p + 6) >>= both inner
 
-module _ {C : Type 0} (font : List ℕ) (p : ℕ) (f : DeltaSet → Reading C) where
+module _ {C : Type 0} (font : List ℕ) (p : ℕ) (f : DeltaSetIndex → Reading C) where
   -- The inner index is refused; it is there and the outer one is refused; both are there.
   pub inner-stops : {r : Half} {n : Refusal} → outcome16 r ≡ run font (unsignedAt 2 (p + 4)) → r ≡ H.Refused n → refusal n ≡ run font (indexIn p >>= f)
   unfolding indexIn

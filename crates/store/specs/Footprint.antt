@@ -11,7 +11,7 @@ use Rattle.readers.specs.Reading.{Reading, answer, refuse, tested, bytesAt, big
 use Rattle.readers.specs.Walk.{each}
 use Rattle.store.specs.Region.{coordinate, Triple, tripleAt, skipped}
 use Rattle.store.specs.Item.{regionStart, Item, itemAt, regionIndexAt, deltaAt}
-use Rattle.store.specs.Metric.{Measure, storeOf, deltaSetAt}
+use Rattle.store.specs.Metric.{Measure, storeOf, deltaSetIndexAt}
 use Rattle.store.specs.Mvar.{Header, headerAt, recordStart, indexIn, find}
 
 infixl 20 _>>=_
@@ -92,7 +92,7 @@ itemFootprint font store outer inner = do
 unfoldable pub metricFootprint : List ℕ → ℕ → Measure → ℕ → List Part
 metricFootprint font base measure glyph = do
   store ← partsOf font (storeOf base)
-  index ← partsOf font (deltaSetAt base measure glyph)
+  index ← partsOf font (deltaSetIndexAt base measure glyph)
   itemFootprint font store (index .outer) (index .inner)
 
 -- ---- an MVAR tag

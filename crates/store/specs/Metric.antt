@@ -22,17 +22,17 @@ mapField advance = 8
 mapField bearing = 12
 
 -- Delta-set index.
-pub record DeltaSet : Type 0 where
+pub record DeltaSetIndex : Type 0 where
   pub outer : ℕ
   pub inner : ℕ
 
 -- The bits of a map's entry: those of the inner index are low; the outer index keeps its low 16 bits (D).
-abbrev pub deltaSetOf : ℕ → ℕ → DeltaSet
-deltaSetOf innerBits entry = record { outer = entry / 2 ^ innerBits % 2 ^ 16; inner = entry % 2 ^ innerBits }
+abbrev pub deltaSetIndexOf : ℕ → ℕ → DeltaSetIndex
+deltaSetIndexOf innerBits entry = record { outer = entry / 2 ^ innerBits % 2 ^ 16; inner = entry % 2 ^ innerBits }
 
 -- DeltaSetIndexMap at p. Document 01's format is 16 bits, OpenType 1.9's format (the high byte) and entryFormat: of these, inner bits are the low 4 bits plus 1, entry bytes are bits 4 and 5 plus 1. A glyph
 -- at or past the count uses the last entry.
-unfoldable pub mapEntry : ℕ → ℕ → Reading DeltaSet
+unfoldable pub mapEntry : ℕ → ℕ → Reading DeltaSetIndex
 mapEntry p glyph = do
   format ← unsignedAt 2 p
   mapCount ← unsignedAt 2 (p + 2)
@@ -40,10 +40,10 @@ mapEntry p glyph = do
   let entrySize = format / 16 % 4 + 1
   let innerBits = format % 16 + 1
   entry ← unsignedAt entrySize (p + 4 + entrySize * min glyph (mapCount - 1))
-  answer (deltaSetOf innerBits entry)
+  answer (deltaSetIndexOf innerBits entry)
 
 -- With no map: for an advance outer 0, inner the glyph; for a bearing refusal 1.
-abbrev pub unmapped : Measure → ℕ → Reading DeltaSet
+abbrev pub unmapped : Measure → ℕ → Reading DeltaSetIndex
 unmapped advance glyph = answer (record { outer = 0; inner = glyph })
 unmapped bearing glyph = refuse 1
 
@@ -57,8 +57,8 @@ storeOf base = do
   answer (itemVariationStoreOffset + base)
 
 -- The glyph's delta-set index: through the map, unless its offset is 0.
-unfoldable pub deltaSetAt : ℕ → Measure → ℕ → Reading DeltaSet
-deltaSetAt base measure glyph = do
+unfoldable pub deltaSetIndexAt : ℕ → Measure → ℕ → Reading DeltaSetIndex
+deltaSetIndexAt base measure glyph = do
   mapOffset ← unsignedAt 4 (base + mapField measure)
   cond (eqb mapOffset 0) (unmapped measure glyph) (mapEntry (base + mapOffset) glyph)
 
@@ -66,7 +66,7 @@ deltaSetAt base measure glyph = do
 unfoldable pub metricDelta : List ℕ → ℕ → Measure → ℕ → List ℤ → Outcome ℤ
 metricDelta font base measure glyph coords = run font do
   store ← storeOf base
-  index ← deltaSetAt base measure glyph
+  index ← deltaSetIndexAt base measure glyph
   deltaIn coords store (index .outer) (index .inner)
 
 -- The float form of a delta: 0.0 on any refusal.

@@ -11,6 +11,6 @@ abbrev pub measureOf : Measure → Metric.Measure
 measureOf M.Advance = Metric.advance
 measureOf M.Bearing = Metric.bearing
 
-abbrev pub deltaSetOutcome : DeltaSetAnswer → Outcome Metric.DeltaSet
+abbrev pub deltaSetOutcome : DeltaSetAnswer → Outcome Metric.DeltaSetIndex
 deltaSetOutcome (D.Value d) = value (record { outer = d .outer; inner = d .inner })
 deltaSetOutcome (D.Refused n) = refusal n

@@ -10,7 +10,7 @@ use lib.Ieee.{Float}
 use Rattle.readers.specs.Outcome.{Outcome, value, onward}
 use Rattle.readers.specs.Reading.{Reading, answer, refuse, _>>=_, _>>_, check, unsignedAt, run}
 use Rattle.store.specs.Item.{deltaIn}
-use Rattle.store.specs.Metric.{DeltaSet, floatOf}
+use Rattle.store.specs.Metric.{DeltaSetIndex, floatOf}
 
 -- The numbers of the header.
 pub record Header : Type 0 where
@@ -32,7 +32,7 @@ abbrev pub recordStart : ℕ → ℕ → ℕ
 recordStart valueRecordSize i = 12 + i * valueRecordSize
 
 -- The delta-set index of the record at p: inner at 4, outer at 6 (D: OpenType has outer first). The order stands here alone.
-unfoldable pub indexIn : ℕ → Reading DeltaSet
+unfoldable pub indexIn : ℕ → Reading DeltaSetIndex
 indexIn p = do
   inner ← unsignedAt 2 (p + 4)
   outer ← unsignedAt 2 (p + 6)

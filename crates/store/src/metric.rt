@@ -13,7 +13,7 @@ ghost use mathlib.Core.Path.{_≡_};
 ghost use Prim.Native.Nat.{_+_, _-_, _*_, _^_, _<_, _≤_, min};
 ghost use Rattle.readers.specs.Reading.{run, unsignedAt};
 ghost use Rattle.readers.specs.Answers.{outcome32, outcomeFixed};
-ghost use Rattle.store.specs.Metric.{advance, bearing, mapField, mapEntry, storeOf, deltaSetAt, metricDelta, floatOf};
+ghost use Rattle.store.specs.Metric.{advance, bearing, mapField, mapEntry, storeOf, deltaSetIndexAt, metricDelta, floatOf};
 ghost use Rattle.store.specs.MetricAnswers.{measureOf, deltaSetOutcome};
 
 // Which of a glyph's measures: advance width or height; left or top bearing.
@@ -23,13 +23,13 @@ pub enum Measure {
 }
 
 // Where a store has a delta.
-struct DeltaSet {
+struct DeltaSetIndex {
     outer: u32,
     inner: u16,
 }
 
 enum DeltaSetAnswer {
-    Value(DeltaSet),
+    Value(DeltaSetIndex),
     Refused(Refusal),
 }
 
@@ -110,7 +110,7 @@ fn map_entry(font: &[u8], at: usize, glyph_id: u16) -> DeltaSetAnswer
         Word::Refused(n) => return DeltaSetAnswer::Refused(n),
     };
     let bits = (format % 16 + 1) as u32;
-    DeltaSetAnswer::Value(DeltaSet {
+    DeltaSetAnswer::Value(DeltaSetIndex {
         outer: (entry >> bits) % 0x1_0000,
         inner: (entry & ((1 << bits) - 1)) as u16,
     })
@@ -128,7 +128,7 @@ fn map_field(measure: Measure) -> usize
 
 // The delta-set index of a glyph: without a map, an advance is found by the glyph itself.
 fn delta_set(font: &[u8], base: u32, measure: Measure, glyph_id: u16) -> DeltaSetAnswer
-    ensures { λ r. ⌜ deltaSetOutcome r ≡ run (now (font .entry)) (deltaSetAt base (measureOf measure) «glyph_id») ⌝ }
+    ensures { λ r. ⌜ deltaSetOutcome r ≡ run (now (font .entry)) (deltaSetIndexAt base (measureOf measure) «glyph_id») ⌝ }
 {
     let offset = match u32_at(font, (base as usize) + map_field(measure)) {
         Word::Value(x) => x,
@@ -138,7 +138,7 @@ fn delta_set(font: &[u8], base: u32, measure: Measure, glyph_id: u16) -> DeltaSe
         return map_entry(font, (base as usize) + (offset as usize), glyph_id);
     }
     match measure {
-        Measure::Advance => DeltaSetAnswer::Value(DeltaSet {
+        Measure::Advance => DeltaSetAnswer::Value(DeltaSetIndex {
             outer: 0,
             inner: glyph_id,
         }),

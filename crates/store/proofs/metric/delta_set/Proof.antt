@@ -2,7 +2,7 @@
 use borrow.Author.Needs.{needs}
 use borrow.Author.Tests.{eq-eqb, ne-eqb}
 use Rattle.readers.proofs.Reading.{took32, stop32, answered, declined}
-use Rattle.store.specs.Metric.{deltaSetAt}
+use Rattle.store.specs.Metric.{deltaSetIndexAt}
 use Rattle.store.proofs.metric.delta_set.Statement.{statement}
 use Rattle.store.proofs.metric.delta_set.Tie as tie
 
@@ -22,7 +22,7 @@ enum-known-n : tie.Need-enum-known-n
 enum-known-n c = search needs
 
 returns : tie.Need-returns
-unfolding deltaSetAt
+unfolding deltaSetIndexAt
 returns c = rw (← c .before .before .before .before .map-field .ensures .0) (stop32 _ _ _ (c .before .before .before .u32-at .ensures) (c .before .n .given .1))
 
 cast-map-entry : tie.Need-cast-map-entry
@@ -35,7 +35,7 @@ map-entry-requires : tie.Need-map-entry-requires
 map-entry-requires c κs = search needs
 
 returns-2 : tie.Need-returns-2
-unfolding deltaSetAt
+unfolding deltaSetIndexAt
 returns-2 c =
     rw (← c .before .before .before .before .before .before .map-field .ensures .0)
     (took32 _ _ _ _ (c .before .before .before .before .before .u32-at .ensures) (c .before .before .before .x .given .1)
@@ -48,14 +48,14 @@ enum-told-2 : tie.Need-enum-told-2
 enum-told-2 c = search needs
 
 returns-3 : tie.Need-returns-3
-unfolding deltaSetAt
+unfolding deltaSetIndexAt
 returns-3 c =
     rw (← c .before .before .before .before .before .before .before .map-field .ensures .0)
     (took32 _ _ _ _ (c .before .before .before .before .before .before .u32-at .ensures) (c .before .before .before .before .x .given .1)
     (rw (eq-eqb _ _ (c .before .before .if1 .left), c .enum-told .given .1) (answered _ _)))
 
 returns-4 : tie.Need-returns-4
-unfolding deltaSetAt
+unfolding deltaSetIndexAt
 returns-4 c =
     rw (← c .before .before .before .before .before .before .before .map-field .ensures .0)
     (took32 _ _ _ _ (c .before .before .before .before .before .before .u32-at .ensures) (c .before .before .before .before .x .given .1)

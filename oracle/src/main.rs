@@ -10,6 +10,7 @@ mod text;
 
 use std::cell::Cell;
 use std::collections::BTreeMap;
+use std::fmt::Display;
 use std::fs::File;
 use std::io::{self, BufRead, BufReader, BufWriter, Write};
 use std::panic::{catch_unwind, resume_unwind};
@@ -22,6 +23,8 @@ oracle answers                       answer the cases on standard input
 oracle stops                         of the cases on standard input write those on which the Rust stops
 oracle compare SEED COUNT SUBJECT    hold the answers on standard input to those of the cases of SEED
 oracle compare FILE                  hold the answers on standard input to those of the cases in FILE
+oracle twins SEED COUNT              write COUNT cases of a delta, each with its twin behind it
+oracle footprints SEED COUNT         hold the answers on standard input to those of the twins of SEED
 ";
 
 /// What the Rust does with a case.
@@ -205,24 +208,25 @@ const COLUMNS: [&str; 6] = [
     "rule vs. Rust",
 ];
 
+/// Prints a row of a table. Its first two columns share their width: a long name has a short count.
+fn print_row<const N: usize>(name: &str, cells: [impl Display; N]) {
+    let mut row = name.to_string();
+    for (k, cell) in cells.iter().enumerate() {
+        let width = if k == 0 { 32 - name.len() } else { 14 };
+        row += &format!("{cell:>width$}");
+    }
+    println!("{row}");
+}
+
 /// Prints the table, and answers whether no row has a difference.
 fn table(rows: &BTreeMap<&str, Row>) -> bool {
-    // the first two columns share their width: a long name has a short count
-    let print = |name: &str, cells: [String; 6]| {
-        let first = format!("{:>1$}", cells[0], 32 - name.len());
-        let cells: String = cells[1..]
-            .iter()
-            .map(|cell| format!("{cell:>14}"))
-            .collect();
-        println!("{name}{first}{cells}");
-    };
     let mut total = Row::default();
-    print("function", COLUMNS.map(str::to_string));
+    print_row("function", COLUMNS);
     for (name, row) in rows {
-        print(name, row.columns().map(|n| n.to_string()));
+        print_row(name, row.columns());
         total.add(row);
     }
-    print("all", total.columns().map(|n| n.to_string()));
+    print_row("all", total.columns());
     total.differences == 0 && total.broken_rules == 0
 }
 
@@ -301,6 +305,14 @@ fn run(words: &[&str]) -> Option<bool> {
                 return Some(false);
             }
         },
+        ["twins", seed, count] => {
+            let (seed, count) = (seed.parse().ok()?, count.parse().ok()?);
+            write_all(store::twins::twin_lines(seed, count));
+        }
+        ["footprints", seed, count] => {
+            let (seed, count) = (seed.parse().ok()?, count.parse().ok()?);
+            return Some(store::twins::compare(seed, count));
+        }
         _ => return None,
     }
     Some(true)

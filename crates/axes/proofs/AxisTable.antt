@@ -11,7 +11,7 @@ use Rattle.readers.specs.Reading.{unsignedAt, signedAt, bigEndian, run}
 use Rattle.readers.specs.Walk.{turns, walk}
 use Rattle.readers.specs.Lent.{fill}
 use Rattle.axes.specs.Avar.{mapTurn, mapAt, segmentMap, pairAt, between, pairTurn, noPair, applied, adjusted}
-use Rattle.axes.specs.Fvar.{fieldAt, headerOf, axisRecord, axis}
+use Rattle.axes.specs.Fvar.{Header, fieldAt, headerOf, axisRecord, axis}
 use Rattle.axes.specs.Variation.{coordTurn, passed, counted, coordsIn, settingTurn, axisCoord, settingCoord, settingsCount, settingsCoords}
 use Rattle.axes.specs.Axis.{clamped, fraction, fromDefault, normalizedCoord}
 
@@ -42,6 +42,14 @@ pub listed : (settingsCount n1-table (headerOf n1-table) [] 0 tags values 3 ≡ 
     × (settingsCoords n1-table (headerOf n1-table) [] 0 tags values marks ≡ pos 8192 ∷ pos 77 ∷ pos 77 ∷ [])
 unfolding n1-table tags values marks wrap32 wrap16 minus negated toF2dot14 over ofFloat ofBits add mul toSigned unsignedAt signedAt bigEndian run turns walk fill fieldAt headerOf axisRecord axis adjusted clamped fraction fromDefault normalizedCoord coordTurn passed counted coordsIn settingTurn axisCoord settingCoord settingsCount settingsCoords
 listed = (refl, refl)
+
+-- The count is min(axis count, 32): a header of 33 axes, none of which can be read, no settings, and room for 33.
+pub axes-33 : Header
+axes-33 = record { axesArrayOffset = 0; axisCount = 33; axisSize = 20; instanceCount = 0; instanceSize = 0 }
+
+pub at-most-32 : settingsCount [] axes-33 [] 0 [] [] 33 ≡ value 32
+unfolding axes-33 unsignedAt run turns walk axisRecord axis coordTurn passed counted settingCoord settingsCount
+at-most-32 = refl
 
 -- Any map is applied, also one that lacks the three fixed points that OpenType asks for: here the one pair 0:0.25, at 0.
 pub any-map-applied : toF2dot14 (adjusted (0 ∷ 0 ∷ 0 ∷ 0 ∷ 0 ∷ 1 ∷ 0 ∷ 0 ∷ 0 ∷ 0 ∷ 0 ∷ 1 ∷ 0 ∷ 1 ∷ 0 ∷ 0 ∷ 0x10 ∷ 0 ∷ []) 4 0 (pos 0)) ≡ pos 4096

@@ -12,7 +12,7 @@ turns turn end (suc k) i a = turn i a (turns turn end k (i + 1))
 unfoldable pub walk : {A B : Type 0} → Turn A B → (A → B) → ℕ → ℕ → A → B
 walk turn end n i a = turns turn end (n - i) i a
 
--- The same where nothing is handed on: what each number from i on, k of them, puts before the rest.
+-- A list made by such a loop, with no state: turn i puts what number i has before the rest. k numbers are left, from i on.
 unfoldable pub each : {B : Type 0} → (ℕ → B → B) → B → ℕ → ℕ → B
 each turn rest zero i = rest
 each turn rest (suc k) i = turn i (each turn rest k (i + 1))

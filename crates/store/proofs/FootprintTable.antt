@@ -4,7 +4,7 @@ use mathlib.Core.Path.{_≡_, refl, ap}
 use mathlib.Core.Bool.{Bool, true, false, _&&_, _||_}
 use mathlib.Core.List.{List, [], _∷_, _++_}
 use lib.Dec.{eqb}
-use lib.ListN.{length, take}
+use lib.ListN.{length, take, drop}
 use lib.IntN.{pos, negsuc}
 use Rattle.readers.specs.Outcome.{value, refused}
 use Rattle.readers.specs.Walk.{each}
@@ -111,12 +111,45 @@ pub cut-triple-parts : metricFootprint cut-font 4 advance 0
 unfolding footing cut-font
 cut-triple-parts = refl
 
+-- A triple that is cut uses no axis, and neither do those of region 0.
+pub cut-triple-axes : (axis : ℕ) → uses cut-font (metricFootprint cut-font 4 advance 0) axis ≡ eqb 0 axis
+unfolding footing cut-font
+cut-triple-axes axis = go (eqb 0 axis) (eqb 1 axis)
+  where
+    go : (b c : Bool) → ((b && true) || ((b && false) || ((c && false) || false))) ≡ b
+    go true true = refl
+    go true false = refl
+    go false true = refl
+    go false false = refl
+
 -- ---- after a refusal
 
 -- An HVAR whose offset of the store is 0: the map's offset, which could be read, is no part.
 pub no-store-parts : metricFootprint (0 ∷ 0 ∷ 0 ∷ 0 ∷ 0 ∷ 1 ∷ 0 ∷ 0 ∷ 0 ∷ 0 ∷ 0 ∷ 0 ∷ 0 ∷ 0 ∷ 0 ∷ 0 ∷ []) 4 advance 0 ≡ bytes 8 4 ∷ []
 unfolding footing
 no-store-parts = refl
+
+-- S1 whose row names region 1 of one: the triple stands behind a refusal, and is no part.
+abbrev invalid-index : List ℕ
+invalid-index = take 49 s1-font ++ 1 ∷ drop 50 s1-font
+
+pub invalid-index-covers : covered invalid-index (metricFootprint invalid-index 4 advance 0) ≡ 8 to 15 ++ 22 to 35 ++ 44 to 49
+unfolding footing s1-font
+invalid-index-covers = refl
+
+-- A font that ends behind two region indices, both 0, of a region with no axes, or in its row.
+abbrev cut-row : List ℕ → List ℕ
+cut-row row =
+    hvar
+    ++ (0 ∷ 1 ∷ 0 ∷ 0 ∷ 0 ∷ 0x0c ∷ 0 ∷ 1 ∷ 0 ∷ 0 ∷ 0 ∷ 0x10
+    ∷ 0 ∷ 0 ∷ 0 ∷ 1
+    ∷ 0 ∷ 1 ∷ 0 ∷ 0 ∷ 0 ∷ 2 ∷ 0 ∷ 0 ∷ 0 ∷ 0 ∷ row)
+
+-- Where the first entry, at 46, is cut, the second index, at 44, is no part, though it could be read.
+pub cut-row-covers : (covered (cut-row []) (metricFootprint (cut-row []) 4 advance 0) ≡ 8 to 15 ++ 22 to 35 ++ 38 to 43)
+    × (covered (cut-row (7 ∷ [])) (metricFootprint (cut-row (7 ∷ [])) 4 advance 0) ≡ 8 to 15 ++ 22 to 35 ++ 38 to 46)
+unfolding footing
+cut-row-covers = (refl, refl)
 
 -- ---- fonts that merged parts would confuse
 
@@ -200,3 +233,11 @@ cut-record = take 25 sorted
 pub cut-record-parts : mvarFootprint cut-record 2 xhgt ≡ bytes 8 2 ∷ bytes 10 2 ∷ bytes 12 2 ∷ bytes 14 8 ∷ bytes 22 3 ∷ []
 unfolding footing
 cut-record-parts = refl
+
+-- The same table with no store, which does not open: its records are no parts.
+abbrev not-opened : List ℕ
+not-opened = take 12 sorted ++ 0 ∷ 0 ∷ drop 14 sorted
+
+pub not-opened-parts : mvarFootprint not-opened 2 hasc ≡ bytes 8 2 ∷ bytes 10 2 ∷ bytes 12 2 ∷ []
+unfolding footing
+not-opened-parts = refl

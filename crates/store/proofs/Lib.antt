@@ -1,11 +1,11 @@
--- The document's examples; the laws that the proofs of `store` share, by subject; scalars in their range; no second answer.
+-- Small fonts, computed; the laws that the proofs of `store` share, by subject; scalars in their range; demand 3; no second answer.
 pub mod DeltaTable
 pub mod MvarTable
 pub mod Triples
 pub mod Scalars
 pub mod SameParts
 pub mod Moved
-pub mod HangsOn
+pub mod OnlyFootprint
 pub mod FootprintTable
 pub mod Entries
 pub mod Search

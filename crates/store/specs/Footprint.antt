@@ -34,13 +34,13 @@ covers [] j = false
 covers (part ∷ parts) j = (leb (start part) j && ltb j (start part + size part)) || covers parts j
 
 -- "An axis is in use if some named region has a whole triple for it that is not skipped": whether one of the parts is such a triple.
-abbrev pub speaks : Outcome Triple → Bool
-speaks (value t) = not (skipped t)
-speaks (refused n) = false
+abbrev pub notSkipped : Outcome Triple → Bool
+notSkipped (value t) = not (skipped t)
+notSkipped (refused n) = false
 
 abbrev pub usedBy : List ℕ → Part → ℕ → Bool
 usedBy font (bytes p n) axis = false
-usedBy font (triple p a) axis = eqb a axis && speaks (run font (tripleAt p))
+usedBy font (triple p a) axis = eqb a axis && notSkipped (run font (tripleAt p))
 
 unfoldable pub uses : List ℕ → List Part → ℕ → Bool
 uses font [] axis = false
@@ -61,10 +61,11 @@ _>>=_ parts rest = parts rest
 
 -- ---- the store
 
--- "All triples of each region named": that of an axis, of a region whose triples start at p. One that reaches past the end is left out, and the walk goes on.
+-- A part that reaches past the end is left out, and the walk goes on.
 abbrev pub whole : List ℕ → Part → List Part → List Part
 whole font part rest = cond (leb (start part + size part) (length font)) (part ∷ rest) rest
 
+-- "All triples of each region named": the triple of an axis, of a region whose triples start at p.
 unfoldable pub tripleOf : List ℕ → ℕ → ℕ → List Part → List Part
 tripleOf font p axis rest = whole font (triple (p + 6 * axis) axis) rest
 
@@ -104,7 +105,7 @@ recordPart table valueRecordSize i rest = bytes (recordStart valueRecordSize i) 
 unfoldable pub records : List ℕ → Header → List Part → List Part
 records table header rest = each (recordPart table (header .valueRecordSize)) rest (header .valueRecordCount) 0
 
--- What follows from a value; from a refusal nothing does.
+-- What a search has found leads on to its parts; a refusal leads to none.
 abbrev pub found : {A : Type 0} → Outcome A → (A → List Part) → List Part
 found (value a) rest = rest a
 found (refused n) rest = []

@@ -1,4 +1,4 @@
--- What the contracts of `store` cite.
+-- What the contracts of `store` cite; and the footprint, over which demand 3 is stated.
 pub mod Region
 pub mod RegionAnswers
 pub mod Item

@@ -2,7 +2,9 @@
 //! rules' answer.
 
 pub mod cases;
+mod footprint;
 pub mod rules;
+pub mod twins;
 
 use crate::axes::rules::Answer;
 use crate::numbers::rules::to_f32;
@@ -10,6 +12,7 @@ use crate::swash::internal::fixed::Fixed;
 use crate::swash::internal::{shown, var};
 use crate::text;
 use crate::{Expected, Rust};
+use footprint::Footprint;
 use rules::Map;
 
 #[derive(Clone, Copy, PartialEq)]
@@ -39,6 +42,7 @@ pub const FUNCTIONS: [(&str, &[Kind]); 8] = [
 
 pub const NEW: &str = "mvar_new";
 
+#[derive(Clone)]
 pub struct Case {
     name: &'static str,
     font: Vec<u8>,
@@ -94,6 +98,26 @@ fn raw(delta: Option<Fixed>, float: f32) -> Option<Rust> {
 }
 
 impl Case {
+    /// The line that it is.
+    fn line(&self) -> String {
+        let (_, kinds) = FUNCTIONS
+            .iter()
+            .find(|(name, _)| *name == self.name)
+            .unwrap();
+        let mut words = vec![self.name.to_string()];
+        words.push(text::bytes_text(self.font.iter().copied()));
+        for (kind, number) in kinds.iter().zip(&self.numbers) {
+            words.push(match kind {
+                Tag => format!("{number:08x}"),
+                Offset | Index => number.to_string(),
+            });
+        }
+        if self.name != NEW {
+            words.push(cases::coords_text(&self.coords));
+        }
+        words.join(" ")
+    }
+
     /// What swash answers. It may panic.
     fn rust(&self) -> Option<Rust> {
         let (font, coords) = (&self.font[..], &self.coords[..]);
@@ -152,6 +176,19 @@ impl Case {
             _ => unreachable!(),
         };
         Ok(vec![delta])
+    }
+
+    /// What its delta hangs on, by the rules.
+    fn footprint(&self) -> Footprint {
+        let font = &self.font[..];
+        let n: Vec<usize> = self.numbers.iter().map(|n| *n as usize).collect();
+        match self.name {
+            "item_delta" => footprint::item(font, n[0], n[1], n[2]),
+            "advance_fixed" | "advance_delta" => footprint::metric(font, n[0], Map::Advance, n[1]),
+            "sb_fixed" | "sb_delta" => footprint::metric(font, n[0], Map::Bearing, n[1]),
+            "mvar_fixed" | "mvar_delta" => footprint::tag(font, n[0], self.numbers[1]),
+            _ => unreachable!(),
+        }
     }
 
     /// Whether the answer is a float: 0.0 on any refusal.

@@ -12,7 +12,7 @@ fn signed(font: &[u8], p: usize, n: usize) -> Answer<i128> {
 }
 
 /// An unsigned number that counts, or leads to a place.
-fn place(font: &[u8], p: usize, n: usize) -> Answer<usize> {
+pub fn place(font: &[u8], p: usize, n: usize) -> Answer<usize> {
     unsigned(font, p, n).map(|x| x as usize)
 }
 
@@ -22,15 +22,27 @@ fn scaled(scalar: i128, gap: i128, by: i128) -> i128 {
     div(mul(scalar, wide(gap)) as i128, wide(by)) as i128
 }
 
+/// Start, peak and end.
+pub fn triple(font: &[u8], p: usize) -> Answer<[i128; 3]> {
+    Ok([
+        signed(font, p, 2)?,
+        signed(font, p + 2, 2)?,
+        signed(font, p + 4, 2)?,
+    ])
+}
+
+/// Whether a triple is skipped, whatever the coordinate is.
+pub fn skipped([start, peak, end]: [i128; 3]) -> bool {
+    start > peak || peak > end || peak == 0 || (start < 0 && 0 < end)
+}
+
 /// The scalar of the region whose triples start at p.
 fn scalar(font: &[u8], p: usize, axis_count: usize, coords: &[i16]) -> Answer<i128> {
     let mut scalar = 65536;
     for axis in 0..axis_count {
-        let start = signed(font, p + 6 * axis, 2)?;
-        let peak = signed(font, p + 6 * axis + 2, 2)?;
-        let end = signed(font, p + 6 * axis + 4, 2)?;
+        let [start, peak, end] = triple(font, p + 6 * axis)?;
         let coord = coords.get(axis).map_or(0, |c| *c as i128);
-        if start > peak || peak > end || peak == 0 || (start < 0 && 0 < end) {
+        if skipped([start, peak, end]) {
             continue;
         }
         if coord < start || end < coord {

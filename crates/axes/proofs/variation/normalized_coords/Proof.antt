@@ -102,13 +102,20 @@ copy-requires c κs = search needs
 same-length : tie.Need-same-length Inv-loop μ-loop
 same-length c = ap length (c .before .copy .ensures) ∙ fill-length _ _ _
 
+-- The first n elements of the list that waited, copied, are the coordinates.
+copied : (f : ℕ → ℤ) (n i : ℕ) (coords l out : List ℤ) → n ≤ 32 → n ≤ i → coords ≡ fill f i (replicate 32 (pos 0)) → out ≡ fill (λ (k : ℕ). getD coords k (pos 0)) n l → out ≡ fill f n l
+copied f n i coords l out h b p e = e ∙ fill-same _ _ n l (λ k a. ap (λ (cs : List ℤ). getD cs k (pos 0)) p ∙ fill-at _ _ _ _ _ (omega arith) (omega arith))
+
 returns-4 : tie.Need-returns-4 Inv-loop μ-loop
 unfolding settingsCoords coordsIn
 returns-4 c =
     let l = c .before .before .before .before .before .loop in
     let end = c .before .before .before .before .loop-test .left in
+    let called = c .before .before .before .before .before .before .before in
+    let args = called .before .before .before .before .before .before .args in
+    let count = called .coord-count in
     wrote _ _ _ _ _ (ended _ _ _ _ _ _ _ (l .inv .1) end refl)
-    (c .before .copy .ensures ∙ fill-same _ _ _ _ (λ k h. ap (λ (cs : List ℤ). getD cs k (pos 0)) (l .inv .2) ∙ fill-at _ _ _ _ _ (omega arith) (omega arith)))
+    (copied _ (count .result) _ _ (args .out .now) _ (count .ensures .1) end (l .inv .2) (c .before .copy .ensures))
 
 pub normalized-coords-spec : {M : Type 1} → statement M
 normalized-coords-spec =

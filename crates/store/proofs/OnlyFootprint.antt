@@ -1,4 +1,4 @@
--- Demand 3: a delta hangs on the bytes of its footprint and on the coordinates of the axes in use, and on nothing else. Assumes nothing.
+-- Demand 3: among fonts of one length a delta hangs on the bytes of its footprint and on the coordinates of the axes in use, and on nothing else. Assumes nothing.
 use Prim.Native.Nat.{ℕ, zero, suc, _+_, _/_, _≤_, _<_}
 use mathlib.Core.Path.{_≡_, refl, ap, sym, _∙_}
 use mathlib.Core.List.{List, [], _∷_, map}
@@ -24,11 +24,11 @@ use Rattle.store.proofs.SameParts.{Alike, Same, later, here, bind-same,
 -- ---- the store
 
 module _ (f g : List ℕ) (c d : List ℤ) (len : length f ≡ length g) where
-  sum-same : (item : Item) → Same f g c d len (itemSum c item) (itemSum d item) (rowParts f item) (rowParts g item)
+  sum-same : (item : Item) → Same f g c d (itemSum c item) (itemSum d item) (rowParts f item) (rowParts g item)
   unfolding itemSum
   sum-same item = row-same f g c d len item _ _ (λ region k rest e. scalar-same f g c d len (item .regions .axisCount) (regionStart (item .regions) region) rest)
 
-  delta-same : (store outer inner : ℕ) → Same f g c d len (deltaIn c store outer inner) (deltaIn d store outer inner) (itemFootprint f store outer inner) (itemFootprint g store outer inner)
+  delta-same : (store outer inner : ℕ) → Same f g c d (deltaIn c store outer inner) (deltaIn d store outer inner) (itemFootprint f store outer inner) (itemFootprint g store outer inner)
   unfolding deltaIn itemFootprint
   delta-same store outer inner = bind-same f g c d len (itemAt store outer inner) (itemSum c) (itemSum d) (rowParts f) (rowParts g) (λ item e. sum-same item)
 
@@ -40,7 +40,7 @@ module _ (f g : List ℕ) (c d : List ℤ) (len : length f ≡ length g) where
   uses-same (triple p a ∷ parts) alike axis = rw (triple-same f g p len (λ w. here alike), uses-same parts (later alike) axis)
 
   -- What is concluded of two readings that are the same on parts.
-  conclude : (r s : Reading ℤ) (ps qs : List Part) → Same f g c d len r s ps qs → EqualOver ps f g → EqualOn (uses f ps) c d
+  conclude : (r s : Reading ℤ) (ps qs : List Part) → Same f g c d r s ps qs → EqualOver ps f g → EqualOn (uses f ps) c d
       → (run f r ≡ run g s) × (ps ≡ qs) × ((axis : ℕ) → uses f ps axis ≡ uses g qs axis)
   unfolding Same
   conclude r s ps qs same over on =
@@ -64,20 +64,20 @@ metric-hangs-on base measure glyph f g c d len = conclude f g c d len _ _ _ _
 
 -- ---- an MVAR tag
 
--- Fonts that are alike on all records have the same bytes in the first eight of each, as far as they are there.
-module _ (f g : List ℕ) (c d : List ℤ) (len : length f ≡ length g) (recordSize : ℕ) where
-  abbrev InRecord : ℕ → Type 0
-  InRecord i = (j : ℕ) → recordStart recordSize i ≤ j → j < recordStart recordSize i + 8 → j < length f → getD f j 0 ≡ getD g j 0
+-- Two fonts have the same bytes in the first eight of record i, as far as these are there.
+abbrev InRecord : List ℕ → List ℕ → ℕ → ℕ → Type 0
+InRecord f g recordSize i = (j : ℕ) → recordStart recordSize i ≤ j → j < recordStart recordSize i + 8 → j < length f → getD f j 0 ≡ getD g j 0
 
-  record-here : (rest : List Part) (k n i : ℕ) → Alike f g c d (each (recordPart f recordSize) rest k n) → n ≤ i → i < n + k → InRecord i
+module _ (f g : List ℕ) (c d : List ℤ) (len : length f ≡ length g) (recordSize : ℕ) where
+  record-here : (rest : List Part) (k n i : ℕ) → Alike f g c d (each (recordPart f recordSize) rest k n) → n ≤ i → i < n + k → InRecord f g recordSize i
   unfolding each recordPart
   record-here rest zero n i alike l u = absurd (omega arith)
   record-here rest (suc k) n i alike l u = go (ltb n i) refl (λ m. record-here rest k (n + 1) i (later alike) m (omega arith))
     where
-      go : (t : Bool) → ltb n i ≡ t → (n + 1 ≤ i → InRecord i) → InRecord i
+      go : (t : Bool) → ltb n i ≡ t → (n + 1 ≤ i → InRecord f g recordSize i) → InRecord f g recordSize i
       go true e further = further (omega (arith, ltb-true n i e))
       go false e further =
-          let at-n : InRecord n = λ j a b w. here alike j a (omega arith) in
+          let at-n : InRecord f g recordSize n = λ j a b w. here alike j a (omega arith) in
           let q : n ≡ i = omega (arith, ltb-false n i e) in
           rw q at at-n
 
@@ -92,7 +92,7 @@ module _ (f g : List ℕ) (c d : List ℤ) (len : length f ≡ length g) (record
   records-same rest (suc k) n = rw (records-same rest k (n + 1), len)
 
   -- The search reads tags of records alone.
-  search-same : (tag count : ℕ) → ((i : ℕ) → i < count → InRecord i) → (k l h : ℕ) → h ≤ count → run f (searchIn recordSize tag k l h) ≡ run g (searchIn recordSize tag k l h)
+  search-same : (tag count : ℕ) → ((i : ℕ) → i < count → InRecord f g recordSize i) → (k l h : ℕ) → h ≤ count → run f (searchIn recordSize tag k l h) ≡ run g (searchIn recordSize tag k l h)
   unfolding searchIn unsignedAt
   search-same tag count at zero l h b = refuse-same f g 4
   search-same tag count at (suc k) l h b = test-same f g (ltb l h) 4 _ _ λ t.
@@ -104,7 +104,7 @@ module _ (f g : List ℕ) (c d : List ℤ) (len : length f ≡ length g) (record
       (answer-same f g _))
 
   -- So it finds the same record, and its indices are the same.
-  module _ (tag count : ℕ) (at : (i : ℕ) → i < count → InRecord i) where
+  module _ (tag count : ℕ) (at : (i : ℕ) → i < count → InRecord f g recordSize i) where
     index-same : (p : ℕ) → run f (searchIn recordSize tag count 0 count) ≡ value p → run f (indexIn p) ≡ run g (indexIn p)
     unfolding indexIn unsignedAt
     index-same p e =
@@ -119,29 +119,29 @@ module _ (f g : List ℕ) (c d : List ℤ) (len : length f ≡ length g) (tag : 
   found-same (refused n) q P Q e h = rw (← e)
 
   -- What follows from a value that was found: its parts, and two readings that are the same on them.
-  then-found : {A : Type 0} (r : Reading A) (k l : A → Reading ℤ) (P Q : A → List Part) → run f r ≡ run g r → ((a : A) → run f r ≡ value a → Same f g c d len (k a) (l a) (P a) (Q a))
-      → Same f g c d len (r >>= k) (r >>= l) (found (run f r) P) (found (run g r) Q)
+  then-found : {A : Type 0} (r : Reading A) (k l : A → Reading ℤ) (P Q : A → List Part) → run f r ≡ run g r → ((a : A) → run f r ≡ value a → Same f g c d (k a) (l a) (P a) (Q a))
+      → Same f g c d (r >>= k) (r >>= l) (found (run f r) P) (found (run g r) Q)
   unfolding Same
   then-found r k l P Q e h alike = (
     then-same f g r r k l e (λ a v. h a v (rw v at alike) .0),
     found-same (run f r) (run g r) P Q e (λ a v. h a v (rw v at alike) .1),
   )
 
-  tag-same : (header : Header) → Same f g c d len (tagDelta header c tag) (tagDelta header d tag)
+  tag-same : (header : Header) → Same f g c d (tagDelta header c tag) (tagDelta header d tag)
       (records f header (found (run f (find header tag)) λ p. found (run f (indexIn p)) λ index. itemFootprint f (header .itemVariationStoreOffset) (index .outer) (index .inner)))
       (records g header (found (run g (find header tag)) λ p. found (run g (indexIn p)) λ index. itemFootprint g (header .itemVariationStoreOffset) (index .outer) (index .inner)))
   unfolding Same records find tagDelta
   tag-same header alike =
       let size : ℕ = header .valueRecordSize in
       let count : ℕ = header .valueRecordCount in
-      let at : (i : ℕ) → i < count → InRecord f g c d len size i = λ i low. record-here f g c d len size _ count 0 i alike (omega arith) (omega arith) in
+      let at : (i : ℕ) → i < count → InRecord f g size i = λ i low. record-here f g c d len size _ count 0 i alike (omega arith) (omega arith) in
       let same = then-found (find header tag) _ _ _ _ (search-same f g c d len size tag count at count 0 count (omega arith))
       λ p v. then-found (indexIn p) _ _ _ _ (index-same f g c d len size tag count at p v)
       λ index w. delta-same f g c d len (header .itemVariationStoreOffset) (index .outer) (index .inner) in
       let (e, parts) = same (records-beyond f g c d len size _ count 0 alike) in
       (e, records-same f g c d len size _ count 0 ∙ ap (λ (q : List Part). each (recordPart g size) q count 0) parts)
 
-  table-same : Same f g c d len (headerAt >>= λ header. tagDelta header c tag) (headerAt >>= λ header. tagDelta header d tag) (mvarParts f tag) (mvarParts g tag)
+  table-same : Same f g c d (headerAt >>= λ header. tagDelta header c tag) (headerAt >>= λ header. tagDelta header d tag) (mvarParts f tag) (mvarParts g tag)
   unfolding mvarParts
   table-same = bind-same f g c d len headerAt _ _ _ _ (λ header v. tag-same header)
 

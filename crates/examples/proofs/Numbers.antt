@@ -1,11 +1,11 @@
 -- Bits, order and sums of 16.16 and 2.14 numbers on small inputs, computed by the definitions that the contracts cite. Assumes nothing.
 use mathlib.Core.Path.{_≡_, refl}
 use mathlib.Core.Bool.{true, false}
-use lib.IntN.{pos, _+ℤ_, _-ℤ_, _*ℤ_}
+use lib.IntN.{pos}
 use lib.Signed.{ltZ}
 use mir.Syntax.{w16, w32}
 use mir.Val.{toZ}
-use Rattle.numbers.specs.Numbers.{modZ, wrap32}
+use Rattle.numbers.specs.Numbers.{modZ, wrap32, above, plusMultiple}
 use Rattle.examples.proofs.Written.{negative}
 
 -- All ones are -1; the highest bit alone is the least number; 40000 lies 25536 below 2^16.
@@ -27,13 +27,13 @@ pub below : (ltZ (negative 1) (pos 0) ≡ true) × (ltZ (pos 0) (pos 0) ≡ fals
 below = (refl, refl)
 
 -- How far 3 lies above 1, and 16384 above the least 2.14 number.
-pub above : (modZ (pos 3 -ℤ pos 1) 0x1_0000 ≡ 2) × (modZ (pos 16384 -ℤ negative 32768) 0x1_0000 ≡ 49152)
-above = (refl, refl)
+pub how-far-above : (above (pos 3) (pos 1) ≡ 2) × (above (pos 16384) (negative 32768) ≡ 49152)
+how-far-above = (refl, refl)
 
--- A product with a whole number keeps its sign and is not rounded: 0 plus 1 by -1; 0 plus 1 by 1. A sum beyond the range wraps: 2147418112 plus 65536 by 32767, of which S4 is made.
+-- A whole multiple keeps its sign and is not rounded: 0 plus 1 by -1; 0 plus 1 by 1. A sum beyond the range wraps: 2147418112 plus 65536 by 32767, of which S4 is made.
 pub sum-of-products :
-    (wrap32 (pos 0 +ℤ pos 1 *ℤ negative 1) ≡ negative 1)
-    × (wrap32 (pos 0 +ℤ pos 1 *ℤ pos 1) ≡ pos 1)
-    × (wrap32 (pos 2147418112 +ℤ pos 65536 *ℤ pos 32767) ≡ negative 131072)
+    (plusMultiple (pos 0) (pos 1) (negative 1) ≡ negative 1)
+    × (plusMultiple (pos 0) (pos 1) (pos 1) ≡ pos 1)
+    × (plusMultiple (pos 2147418112) (pos 65536) (pos 32767) ≡ negative 131072)
 unfolding wrap32
 sum-of-products = (refl, refl, refl)

@@ -2,12 +2,12 @@
 // A number is passed whole: what computes with it goes through its methods, of which `to_bits`, `from_f2dot14`, `to_f32` and `lt` open it.
 ghost use mathlib.Core.Path.{_≡_};
 ghost use Prim.Native.Nat.{_^_, _≤_, min};
-ghost use lib.IntN.{pos, natAbs, _+ℤ_, _-ℤ_, _*ℤ_};
+ghost use lib.IntN.{pos, natAbs};
 ghost use lib.Ieee.{toSigned};
 ghost use lib.Signed.{ltZ};
 ghost use mir.Syntax.{w16, w32};
 ghost use mir.Val.{toZ};
-ghost use Rattle.numbers.specs.Numbers.{modZ, wrap32, plus, minus, negated, lesser, greater, fromInteger, fromF2dot14, toF2dot14, isNeg, withSign, times, quotient, over, scaled, timesOver};
+ghost use Rattle.numbers.specs.Numbers.{modZ, wrap32, above, plusMultiple, plus, minus, negated, lesser, greater, fromInteger, fromF2dot14, toF2dot14, isNeg, withSign, times, quotient, over, scaled, timesOver};
 ghost use Rattle.numbers.specs.Floats.{ofFloat, toFloat, wholeBits};
 
 // 16.16
@@ -40,7 +40,7 @@ impl F2Dot14 {
 
     // How far self lies above rhs, modulo 2^16: where rhs is not above it, the difference itself.
     pub fn above(self, rhs: F2Dot14) -> u16
-        ensures { λ r. ⌜ r ≡ modZ (self .0 -ℤ rhs .0) 0x1_0000 ⌝ }
+        ensures { λ r. ⌜ r ≡ above (self .0) (rhs .0) ⌝ }
     {
         std::num::wrapping_sub_u16(self.to_bits(), rhs.to_bits())
     }
@@ -189,7 +189,7 @@ impl Fixed {
 
     // self plus a 16.16 number times a whole number, modulo 2^32: nothing is rounded.
     pub fn add_product(self, x: Fixed, n: i16) -> Fixed
-        ensures { λ r. ⌜ r .0 ≡ wrap32 (self .0 +ℤ x .0 *ℤ n) ⌝ }
+        ensures { λ r. ⌜ r .0 ≡ plusMultiple (self .0) (x .0) n ⌝ }
     {
         let product = (x.to_bits() as u64) * (bits_of(n as i32) as u64);
         Fixed::from_bits(((product + (self.to_bits() as u64)) % 0x1_0000_0000) as u32)

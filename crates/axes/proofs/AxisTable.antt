@@ -6,7 +6,7 @@ use lib.IntN.{ℤ, pos}
 use lib.Ieee.{Float, binary32, ofBits, add, mul, toSigned}
 use Rattle.numbers.specs.Numbers.{wrap32, wrap16, plus, minus, negated, toF2dot14, over, timesOver}
 use Rattle.numbers.specs.Floats.{ofFloat}
-use Rattle.readers.specs.Outcome.{value}
+use Rattle.readers.specs.Outcome.{value, refused}
 use Rattle.readers.specs.Reading.{unsignedAt, signedAt, bigEndian, run}
 use Rattle.readers.specs.Walk.{turns, walk}
 use Rattle.readers.specs.Lent.{fill}
@@ -50,6 +50,11 @@ axes-33 = record { axesArrayOffset = 0; axisCount = 33; axisSize = 20; instanceC
 pub at-most-32 : settingsCount [] axes-33 [] 0 [] [] 33 ≡ value 32
 unfolding axes-33 unsignedAt run turns walk axisRecord axis coordTurn passed counted settingCoord settingsCount
 at-most-32 = refl
+
+-- One tag, no value and no room: the lists' lengths are looked at first.
+pub lengths-before-room : settingsCount [] axes-33 [] 0 (0 ∷ []) [] 0 ≡ refused 6
+unfolding settingsCount
+lengths-before-room = refl
 
 -- Any map is applied, also one that lacks the three fixed points that OpenType asks for: here the one pair 0:0.25, at 0.
 pub any-map-applied : toF2dot14 (adjusted (0 ∷ 0 ∷ 0 ∷ 0 ∷ 0 ∷ 1 ∷ 0 ∷ 0 ∷ 0 ∷ 0 ∷ 0 ∷ 1 ∷ 0 ∷ 1 ∷ 0 ∷ 0 ∷ 0x10 ∷ 0 ∷ []) 4 0 (pos 0)) ≡ pos 4096

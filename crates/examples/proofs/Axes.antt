@@ -15,18 +15,11 @@ use Rattle.axes.specs.Axis.{Axis, noAxis, hidden, clamped, fraction, fromDefaul
 use Rattle.axes.specs.Fvar.{fieldAt, headerOf, axisRecord, axis, instanceRecord, instanceValues, instanceValue}
 use Rattle.axes.specs.Values.{valueIn}
 use Rattle.axes.specs.Variation.{coordTurn, passed, counted, coordsIn, valueCoord, instanceCount, instanceCoords}
+use Rattle.examples.proofs.Written.{axisBy}
 
 -- An axis of which the flags alone are not 0.
 abbrev flagged : ℕ → Axis
-flagged flags = record {
-  index = 0;
-  axisTag = 0;
-  minValue = pos 0;
-  defaultValue = pos 0;
-  maxValue = pos 0;
-  flags = flags;
-  axisNameID = 0;
-}
+flagged flags = axisBy flags (pos 0) (pos 0) (pos 0)
 
 -- The lowest bit alone says that an axis is hidden, whatever the others are.
 pub hidden-by-the-lowest-bit : (hidden (flagged 2) ≡ false) × (hidden (flagged 3) ≡ true)

@@ -13,19 +13,11 @@ use Rattle.axes.specs.Axis.{clamped, fraction, fromDefault, normalizedCoord}
 use Rattle.store.specs.Region.{regionScalar}
 use Rattle.store.specs.Metric.{advance, metricDelta}
 use Rattle.store.proofs.DeltaTable.{computing, s1-font, s2-font, s3-font, s4-font, s5-font, h1-font}
-use Rattle.examples.proofs.Written.{negative, float}
+use Rattle.examples.proofs.Written.{negative, float, axisBy}
 
 -- An axis min/default/max, and a value of it normalised without avar, all raw.
 abbrev normalized : ℤ → ℤ → ℤ → ℤ → Outcome ℤ
-normalized min default max = normalizedCoord [] 0 (record {
-  index = 0;
-  axisTag = 0;
-  minValue = min;
-  defaultValue = default;
-  maxValue = max;
-  flags = 0;
-  axisNameID = 0;
-})
+normalized min default max = normalizedCoord [] 0 (axisBy 0 min default max)
 
 -- The same of N1's axis, in units.
 abbrev n1 : ℕ → Outcome ℤ

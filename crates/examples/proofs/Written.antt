@@ -1,7 +1,8 @@
--- How the examples write a number below 0, and a float. Assumes nothing.
+-- How the examples write a number below 0, a float, and an axis. Assumes nothing.
 use Prim.Native.Nat.{ℕ}
 use lib.IntN.{ℤ, pos, negℤ}
 use lib.Ieee.{Float, binary32, ofBits}
+use Rattle.axes.specs.Axis.{Axis}
 
 -- Minus n.
 abbrev pub negative : ℕ → ℤ
@@ -10,3 +11,15 @@ negative n = negℤ (pos n)
 -- A float by its bits.
 abbrev pub float : ℕ → Float
 float = ofBits binary32
+
+-- An axis by its flags, min, default and max, raw.
+abbrev pub axisBy : ℕ → ℤ → ℤ → ℤ → Axis
+axisBy flags min default max = record {
+  index = 0;
+  axisTag = 0;
+  minValue = min;
+  defaultValue = default;
+  maxValue = max;
+  flags = flags;
+  axisNameID = 0;
+}

@@ -53,7 +53,7 @@ at-most-32 = refl
 
 -- One tag, no value and no room: the lists' lengths are looked at first.
 pub lengths-before-room : settingsCount [] axes-33 [] 0 (0 ∷ []) [] 0 ≡ refused 6
-unfolding settingsCount
+unfolding axes-33 counted settingsCount
 lengths-before-room = refl
 
 -- Any map is applied, also one that lacks the three fixed points that OpenType asks for: here the one pair 0:0.25, at 0.

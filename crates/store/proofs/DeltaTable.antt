@@ -5,11 +5,12 @@ use Prim.Native.Nat.{ℕ}
 use lib.IntN.{pos, negsuc}
 use Rattle.numbers.specs.Numbers.{wrap32, times, over}
 use Rattle.readers.specs.Outcome.{value, refused}
-use Rattle.readers.specs.Reading.{Reading, answer, refuse, tested, bytesAt, unsignedAt, signedAt, bigEndian, run}
+use Rattle.readers.specs.Reading.{unsignedAt, signedAt, bigEndian, run}
 use Rattle.readers.specs.Walk.{turns, walk}
 use Rattle.store.specs.Region.{tripleAt, skipped, tent, tentAt, axisTurn, regionScalar}
 use Rattle.store.specs.Item.{regionList, rowAt, itemAt, regionIndexAt, deltaAt, rowTurn, rowSum, itemSum, deltaIn}
 use Rattle.store.specs.Metric.{advance, bearing, deltaSetIndexOf, mapEntry, storeOf, deltaSetIndexAt, metricDelta}
+use Rattle.store.specs.Footprint.{bytes, partsOf}
 
 -- What every example unfolds.
 unfoldable pub computing : Unit {0}
@@ -92,16 +93,12 @@ pub sum-before-map : metricDelta (0 ∷ 0 ∷ 0 ∷ 0 ∷ 0 ∷ 1 ∷ 0 ∷ 0 �
 unfolding computing
 sum-before-map = refl
 
--- The positions that a reading reads, in its order.
-pub order : {A : Type 0} → List ℕ → Reading A → List ℕ
-order font (answer a) = []
-order font (refuse n) = []
-order font (tested t n r) = order font r
-order font (bytesAt n p f) = p ∷ order font (f (bigEndian n font p))
-
--- Of S1's store, at 20: count, region list with its two counts, subtable with its two counts; then the region index, the triple, the entry.
-pub S1-order : order s1-font (deltaIn (pos 8192 ∷ []) 20 0 0) ≡ 26 ∷ 22 ∷ 32 ∷ 34 ∷ 28 ∷ 46 ∷ 44 ∷ 48 ∷ 36 ∷ 38 ∷ 40 ∷ 50 ∷ []
-unfolding computing s1-font order
+-- The reads of S1's store, at 20, in their order: count, region list with its two counts, subtable with its two counts; then the region index, the triple's three numbers, the entry.
+pub S1-order : partsOf s1-font (deltaIn (pos 8192 ∷ []) 20 0 0) (λ delta. [])
+    ≡ bytes 26 2 ∷ bytes 22 4 ∷ bytes 32 2 ∷ bytes 34 2 ∷ bytes 28 4 ∷ bytes 46 2 ∷ bytes 44 2
+    ∷ bytes 48 2 ∷ bytes 36 2 ∷ bytes 38 2 ∷ bytes 40 2 ∷ bytes 50 1
+    ∷ []
+unfolding computing s1-font partsOf
 S1-order = refl
 
 -- The second row of a subtable with one word: it starts behind the two bytes of the first.

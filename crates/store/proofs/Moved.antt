@@ -1,5 +1,5 @@
 -- A table is the part of the font from a position on: its parts are the font's, moved there. Assumes nothing.
-use Prim.Native.Nat.{ℕ, zero, suc, _+_, _-_, _≤_}
+use Prim.Native.Nat.{ℕ, zero, suc, _+_, _-_, _≤_, _<_}
 use mathlib.Core.Path.{_≡_, refl, sym, _∙_}
 use mathlib.Core.List.{List, [], _∷_, map}
 use mathlib.Core.Bool.{Bool, true, false, _&&_}
@@ -7,23 +7,19 @@ use lib.ListN.{length, drop, length-drop}
 use lib.Seq.{getD-drop}
 use lib.Dec.{leb, ltb}
 use native.Mathlib.Omega.{arith}
-use borrow.Author.Tests.{le-leb, leb-true, leb-false}
+use borrow.Author.Tests.{le-leb, lt-leb, leb-true, leb-false}
 use Rattle.readers.specs.Reading.{Reading, bytesAt, bigEndian, unsignedAt, signedAt, run}
 use Rattle.readers.proofs.TwoFonts.{answer-same}
 use Rattle.store.specs.Region.{tripleAt}
 use Rattle.store.specs.Footprint.{Part, bytes, triple, covers, uses, moved, EqualOver}
 
 -- Two tests that ask the same.
-leb-alike : (a b c d : ℕ) → (a ≤ b → c ≤ d) → (c ≤ d → a ≤ b) → leb a b ≡ leb c d
-leb-alike a b c d there back = go (leb c d) refl
+leb-alike : (a b c d : ℕ) → (c ≤ d → a ≤ b) → (d < c → b < a) → leb a b ≡ leb c d
+leb-alike a b c d holds fails = go (leb c d) refl
   where
     go : (t : Bool) → leb c d ≡ t → leb a b ≡ t
-    go true e = le-leb a b (back (leb-true c d e))
-    go false e = go′ (leb a b) refl
-      where
-        go′ : (u : Bool) → leb a b ≡ u → u ≡ false
-        go′ true p = let q : c ≤ d = there (leb-true a b p) in absurd (omega (arith, q, leb-false c d e))
-        go′ false p = refl
+    go true e = le-leb a b (holds (leb-true c d e))
+    go false e = lt-leb a b (fails (leb-false c d e))
 
 module _ (by : ℕ) (font : List ℕ) where
   number-moved : (n p : ℕ) → bigEndian n (drop by font) p ≡ bigEndian n font (by + p)

@@ -19,7 +19,7 @@ use Rattle.store.specs.Footprint.{Part, bytes, triple, uses, rowParts, i
 use Rattle.store.proofs.Triples.{triple-same}
 use Rattle.store.proofs.Search.{found-record}
 use Rattle.store.proofs.Moved.{over-moved, uses-moved}
-use Rattle.store.proofs.SameParts.{Alike, Same, later, here, bind-same, scalar-same, row-same}
+use Rattle.store.proofs.SameParts.{Alike, Same, later, here, each-alike, past-each, bind-same, scalar-same, row-same}
 
 -- ---- the store
 
@@ -81,15 +81,14 @@ module _ (f g : List ℕ) (c d : List ℤ) (len : length f ≡ length g) (record
           let q : n ≡ i = omega (arith, ltb-false n i e) in
           rw q at at-n
 
-  records-beyond : (rest : List Part) (k n : ℕ) → Alike f g c d (each (recordPart f recordSize) rest k n) → Alike f g c d rest
-  unfolding each recordPart
-  records-beyond rest zero n alike = alike
-  records-beyond rest (suc k) n alike = records-beyond rest k (n + 1) (later alike)
+  past-record : (i : ℕ) (rest : List Part) → Alike f g c d (recordPart f recordSize i rest) → Alike f g c d rest
+  unfolding recordPart
+  past-record i rest alike = later alike
 
-  records-same : (rest : List Part) (k n : ℕ) → each (recordPart f recordSize) rest k n ≡ each (recordPart g recordSize) rest k n
-  unfolding each recordPart
-  records-same rest zero n = refl
-  records-same rest (suc k) n = rw (records-same rest k (n + 1), len)
+  -- How much of a record is there hangs on the length alone.
+  record-alike : (i : ℕ) (rest : List Part) → recordPart f recordSize i rest ≡ recordPart g recordSize i rest
+  unfolding recordPart
+  record-alike i rest = rw len
 
   -- The search reads tags of records alone.
   search-same : (tag count : ℕ) → ((i : ℕ) → i < count → InRecord f g recordSize i) → (k l h : ℕ) → h ≤ count → run f (searchIn recordSize tag k l h) ≡ run g (searchIn recordSize tag k l h)
@@ -113,7 +112,7 @@ module _ (f g : List ℕ) (c d : List ℤ) (len : length f ≡ length g) (record
         read-same f g 2 (p + 6) _ _ len (λ w j a x. at i low j (omega arith) (omega arith) (omega arith)) λ outer.
         answer-same f g _
 
-module _ (f g : List ℕ) (c d : List ℤ) (len : length f ≡ length g) (tag : ℕ) where
+module _ (f g : List ℕ) (c d : List ℤ) where
   found-same : {A : Type 0} (o q : Outcome A) (P Q : A → List Part) → o ≡ q → ((a : A) → o ≡ value a → P a ≡ Q a) → found o P ≡ found q Q
   found-same (value a) q P Q e h = rw (← e) (h a refl)
   found-same (refused n) q P Q e h = rw (← e)
@@ -127,6 +126,7 @@ module _ (f g : List ℕ) (c d : List ℤ) (len : length f ≡ length g) (tag : 
     found-same (run f r) (run g r) P Q e (λ a v. h a v (rw v at alike) .1),
   )
 
+module _ (f g : List ℕ) (c d : List ℤ) (len : length f ≡ length g) (tag : ℕ) where
   tag-same : (header : Header) → Same f g c d (tagDelta header c tag) (tagDelta header d tag)
       (records f header (found (run f (find header tag)) λ p. found (run f (indexIn p)) λ index. itemFootprint f (header .itemVariationStoreOffset) (index .outer) (index .inner)))
       (records g header (found (run g (find header tag)) λ p. found (run g (indexIn p)) λ index. itemFootprint g (header .itemVariationStoreOffset) (index .outer) (index .inner)))
@@ -135,11 +135,11 @@ module _ (f g : List ℕ) (c d : List ℤ) (len : length f ≡ length g) (tag : 
       let size : ℕ = header .valueRecordSize in
       let count : ℕ = header .valueRecordCount in
       let at : (i : ℕ) → i < count → InRecord f g size i = λ i low. record-here f g c d len size _ count 0 i alike (omega arith) (omega arith) in
-      let same = then-found (find header tag) _ _ _ _ (search-same f g c d len size tag count at count 0 count (omega arith))
-      λ p v. then-found (indexIn p) _ _ _ _ (index-same f g c d len size tag count at p v)
+      let same = then-found f g c d (find header tag) _ _ _ _ (search-same f g c d len size tag count at count 0 count (omega arith))
+      λ p v. then-found f g c d (indexIn p) _ _ _ _ (index-same f g c d len size tag count at p v)
       λ index w. delta-same f g c d len (header .itemVariationStoreOffset) (index .outer) (index .inner) in
-      let (e, parts) = same (records-beyond f g c d len size _ count 0 alike) in
-      (e, records-same f g c d len size _ count 0 ∙ ap (λ (q : List Part). each (recordPart g size) q count 0) parts)
+      let (e, parts) = same (past-each f g c d (recordPart f size) (past-record f g c d len size) _ count 0 alike) in
+      (e, each-alike (recordPart f size) (recordPart g size) (record-alike f g c d len size) _ count 0 ∙ ap (λ (q : List Part). each (recordPart g size) q count 0) parts)
 
   table-same : Same f g c d (headerAt >>= λ header. tagDelta header c tag) (headerAt >>= λ header. tagDelta header d tag) (mvarParts f tag) (mvarParts g tag)
   unfolding mvarParts

@@ -22,6 +22,12 @@ pub record Alike (f g : List ℕ) (c d : List ℤ) (parts : List Part) : Type 0 
   pub over : EqualOver parts f g
   pub on : EqualOn (uses f parts) c d
 
+-- Two loops whose turns list the same list the same.
+pub each-alike : (t u : ℕ → List Part → List Part) → ((i : ℕ) (rest : List Part) → t i rest ≡ u i rest) → (rest : List Part) (k i : ℕ) → each t rest k i ≡ each u rest k i
+unfolding each
+each-alike t u same rest zero i = refl
+each-alike t u same rest (suc k) i = same i (each t rest k (i + 1)) ∙ ap (u i) (each-alike t u same rest k (i + 1))
+
 or-right : (a b : Bool) → b ≡ true → (a || b) ≡ true
 or-right true b e = refl
 or-right false b e = e
@@ -47,6 +53,13 @@ module _ (f g : List ℕ) (c d : List ℤ) where
   -- Where fonts and coordinates are alike on ps, the two readings have one outcome, and ps and qs are the same parts.
   unfoldable pub Same : {A : Type 0} → Reading A → Reading A → List Part → List Part → Type 0
   Same r s ps qs = Alike f g c d ps → (run f r ≡ run g s) × (ps ≡ qs)
+
+  -- Behind what a loop lists stand the parts that come after it.
+  pub past-each : (turn : ℕ → List Part → List Part) → ((i : ℕ) (rest : List Part) → Alike f g c d (turn i rest) → Alike f g c d rest)
+      → (rest : List Part) (k i : ℕ) → Alike f g c d (each turn rest k i) → Alike f g c d rest
+  unfolding each
+  past-each turn past rest zero i alike = alike
+  past-each turn past rest (suc k) i alike = past-each turn past rest k (i + 1) (past i (each turn rest k (i + 1)) alike)
 
   module _ (len : length f ≡ length g) where
     -- A read of n bytes at p, whole or not, as t says; then what is made of its number.
@@ -74,11 +87,10 @@ module _ (f g : List ℕ) (c d : List ℤ) where
 
     -- ---- the triples of a region
 
-    -- Which of them are whole hangs on the length alone.
-    triples-same : (p k axis : ℕ) (rest : List Part) → each (tripleOf f p) rest k axis ≡ each (tripleOf g p) rest k axis
-    unfolding each tripleOf
-    triples-same p zero axis rest = refl
-    triples-same p (suc k) axis rest = rw (triples-same p k (axis + 1) rest, len)
+    -- Whether one is whole hangs on the length alone.
+    triple-alike : (p axis : ℕ) (rest : List Part) → tripleOf f p axis rest ≡ tripleOf g p axis rest
+    unfolding tripleOf
+    triple-alike p axis rest = rw len
 
     past-one : (part : Part) (rest : List Part) → Alike f g c d (whole f part rest) → Alike f g c d rest
     past-one part rest = go (leb (start part + size part) (length f))
@@ -87,10 +99,9 @@ module _ (f g : List ℕ) (c d : List ℤ) where
         go true alike = later alike
         go false alike = alike
 
-    past-all : (p k axis : ℕ) (rest : List Part) → Alike f g c d (each (tripleOf f p) rest k axis) → Alike f g c d rest
-    unfolding each tripleOf
-    past-all p zero axis rest alike = alike
-    past-all p (suc k) axis rest alike = past-all p k (axis + 1) rest (past-one (triple (p + 6 * axis) axis) (each (tripleOf f p) rest k (axis + 1)) alike)
+    past-triple : (p axis : ℕ) (rest : List Part) → Alike f g c d (tripleOf f p axis rest) → Alike f g c d rest
+    unfolding tripleOf
+    past-triple p axis rest = past-one (triple (p + 6 * axis) axis) rest
 
     -- A triple that is skipped doesn't look at the coordinate.
     tent-same : (t : Triple) (x y s : ℤ) → (not (skipped t) ≡ true → x ≡ y) → tent t x s ≡ tent t y s
@@ -128,18 +139,22 @@ module _ (f g : List ℕ) (c d : List ℤ) where
 
     -- ---- the sum over a row, whatever hands in the scalars, as long as those are the same where the triples are alike
 
+    -- Index k of the row names a region.
+    abbrev Names : Item → ℕ → ℕ → Type 0
+    Names item k region = run f (regionIndexAt (item .regions .regionCount) (item .row .regionIndexes + 2 * k)) ≡ value region
+
     module _ (item : Item) (x y : ℕ → Reading ℤ)
-        (scalars : (region k : ℕ) (rest : List Part) → run f (regionIndexAt (item .regions .regionCount) (item .row .regionIndexes + 2 * k)) ≡ value region → Alike f g c d (triples f (item .regions .axisCount) (regionStart (item .regions) region) rest) → run f (x region) ≡ run g (y region)) where
-      weighed-same : (region k : ℕ) → run f (regionIndexAt (item .regions .regionCount) (item .row .regionIndexes + 2 * k)) ≡ value region → (F G : ℤ → Reading ℤ) (P Q : List Part) → ((s : ℤ) → Same (F s) (G s) P Q)
+        (scalars : (region k : ℕ) (rest : List Part) → Names item k region → Alike f g c d (triples f (item .regions .axisCount) (regionStart (item .regions) region) rest) → run f (x region) ≡ run g (y region)) where
+      weighed-same : (region k : ℕ) → Names item k region → (F G : ℤ → Reading ℤ) (P Q : List Part) → ((s : ℤ) → Same (F s) (G s) P Q)
           → Same (x region >>= F) (y region >>= G)
           (triples f (item .regions .axisCount) (regionStart (item .regions) region) P) (triples g (item .regions .axisCount) (regionStart (item .regions) region) Q)
       unfolding Same triples
       weighed-same region k e F G P Q h alike =
           let axisCount : ℕ = item .regions .axisCount in
           let p : ℕ = regionStart (item .regions) region in
-          let on : Alike f g c d P = past-all p axisCount 0 P alike in (
+          let on : Alike f g c d P = past-each (tripleOf f p) (past-triple p) P axisCount 0 alike in (
             then-same f g (x region) (y region) F G (scalars region k P e alike) (λ s v. h s on .0),
-            triples-same p axisCount 0 P ∙ ap (λ (q : List Part). each (tripleOf g p) q axisCount 0) (h (pos 0) on .1),
+            each-alike (tripleOf f p) (tripleOf g p) (triple-alike p) P axisCount 0 ∙ ap (λ (q : List Part). each (tripleOf g p) q axisCount 0) (h (pos 0) on .1),
           )
 
       entries-same : (k i : ℕ) (sum : ℤ) → Same (turns (rowTurn x (item .regions .regionCount) (item .row)) answer k i sum) (turns (rowTurn y (item .regions .regionCount) (item .row)) answer k i sum)

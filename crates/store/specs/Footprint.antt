@@ -80,9 +80,11 @@ entryParts font item k rest = do
     delta ← partsOf font (deltaAt (item .row .wordDeltaCount) (item .row .start) k)
     rest
 
+-- "Its region indices; all triples of each region named with a valid index; the row."
 unfoldable pub rowParts : List ℕ → Item → List Part
 rowParts font item = each (entryParts font item) [] (item .row .regionIndexCount) 0
 
+-- "Store + 2..+ 7; the subtable's offset; the region list's first four; subtable + 2..+ 5", in the order of their reads; then the row's.
 unfoldable pub itemFootprint : List ℕ → ℕ → ℕ → ℕ → List Part
 itemFootprint font store outer inner = do
   item ← partsOf font (itemAt store outer inner)
@@ -90,6 +92,7 @@ itemFootprint font store outer inner = do
 
 -- ---- a glyph's advance or bearing
 
+-- "The bytes at base + 4..+ 11 (bearing: + 4..+ 7, + 12..+ 15); the map's first four bytes and the used entry"; then the store's.
 unfoldable pub metricFootprint : List ℕ → ℕ → Measure → ℕ → List Part
 metricFootprint font base measure glyph = do
   store ← partsOf font (storeOf base)

@@ -12,7 +12,7 @@ use Rattle.readers.specs.Outcome.{Outcome, value, refused}
 use Rattle.readers.specs.Reading.{Reading, unsignedAt, run, _>>=_}
 use Rattle.readers.specs.Walk.{each}
 use Rattle.readers.proofs.TwoFonts.{then-same, read-same, test-same, choice-same, answer-same, refuse-same}
-use Rattle.store.specs.Item.{Item, regionStart, itemAt, itemSum, deltaIn, itemDelta}
+use Rattle.store.specs.Item.{Item, itemAt, itemSum, deltaIn, itemDelta}
 use Rattle.store.specs.Metric.{Measure, storeOf, deltaSetIndexAt, metricDelta, floatOf}
 use Rattle.store.specs.Mvar.{Header, headerAt, recordStart, indexIn, searchIn, find, tagDelta, mvarDelta}
 use Rattle.store.specs.Footprint.{Part, bytes, triple, uses, rowParts, itemFootprint, metricFootprint, recordPart, records, found, mvarParts, moved, mvarFootprint, EqualOver, EqualOn, HangsOn}
@@ -26,7 +26,7 @@ use Rattle.store.proofs.SameParts.{Alike, Same, later, here, each-alike
 module _ (f g : List ℕ) (c d : List ℤ) (len : length f ≡ length g) where
   sum-same : (item : Item) → Same f g c d (itemSum c item) (itemSum d item) (rowParts f item) (rowParts g item)
   unfolding itemSum
-  sum-same item = row-same f g c d len item _ _ (λ region k rest e. scalar-same f g c d len (item .regions .axisCount) (regionStart (item .regions) region) rest)
+  sum-same item = row-same f g c d len item _ _ (λ region k rest e. scalar-same f g c d len (item .regions) region rest)
 
   delta-same : (store outer inner : ℕ) → Same f g c d (deltaIn c store outer inner) (deltaIn d store outer inner) (itemFootprint f store outer inner) (itemFootprint g store outer inner)
   unfolding deltaIn itemFootprint

@@ -14,7 +14,7 @@ use Rattle.readers.specs.Walk.{walk, turns, each}
 use Rattle.readers.proofs.Bytes.{SameBytes, same-bytes}
 use Rattle.readers.proofs.TwoFonts.{then-same}
 use Rattle.store.specs.Region.{coordinate, Triple, tripleAt, skipped, Tent, next, outside, tent, tentAt, under, axisTurn, regionScalar}
-use Rattle.store.specs.Item.{Item, regionStart, regionIndexAt, deltaAt, rowTurn, rowSum}
+use Rattle.store.specs.Item.{Regions, Item, regionStart, regionIndexAt, deltaAt, rowTurn, rowSum}
 use Rattle.store.specs.Footprint.{Part, bytes, triple, start, size, covers, notSkipped, usedBy, uses, partsOf, whole, tripleOf, triples, entryParts, rowParts, EqualOver, EqualOn}
 use Rattle.store.proofs.Triples.{triple-same, triple-whole}
 
@@ -133,9 +133,10 @@ module _ (f g : List ℕ) (c d : List ℤ) where
         axis-same (p + 6 * axis) axis s (turns (axisTurn c p) answer k (axis + 1)) (turns (axisTurn d p) answer k (axis + 1)) others alike
         (λ s. axes-same p k (axis + 1) s rest (past-one (triple (p + 6 * axis) axis) others alike))
 
-    pub scalar-same : (axisCount p : ℕ) (rest : List Part) → Alike f g c d (triples f axisCount p rest) → run f (regionScalar c axisCount p) ≡ run g (regionScalar d axisCount p)
+    pub scalar-same : (regions : Regions) (region : ℕ) (rest : List Part) → Alike f g c d (triples f regions region rest)
+        → run f (regionScalar c (regions .axisCount) (regionStart regions region)) ≡ run g (regionScalar d (regions .axisCount) (regionStart regions region))
     unfolding triples regionScalar walk
-    scalar-same axisCount p rest alike = rw (sub-zero axisCount) (axes-same p axisCount 0 (pos 65536) rest alike)
+    scalar-same regions region rest alike = rw (sub-zero (regions .axisCount)) (axes-same (regionStart regions region) (regions .axisCount) 0 (pos 65536) rest alike)
 
     -- ---- the sum over a row, whatever hands in the scalars, as long as those are the same where the triples are alike
 
@@ -144,10 +145,10 @@ module _ (f g : List ℕ) (c d : List ℤ) where
     Names item k region = run f (regionIndexAt (item .regions .regionCount) (item .row .regionIndexes + 2 * k)) ≡ value region
 
     module _ (item : Item) (x y : ℕ → Reading ℤ)
-        (scalars : (region k : ℕ) (rest : List Part) → Names item k region → Alike f g c d (triples f (item .regions .axisCount) (regionStart (item .regions) region) rest) → run f (x region) ≡ run g (y region)) where
+        (scalars : (region k : ℕ) (rest : List Part) → Names item k region → Alike f g c d (triples f (item .regions) region rest) → run f (x region) ≡ run g (y region)) where
       weighed-same : (region k : ℕ) → Names item k region → (F G : ℤ → Reading ℤ) (P Q : List Part) → ((s : ℤ) → Same (F s) (G s) P Q)
           → Same (x region >>= F) (y region >>= G)
-          (triples f (item .regions .axisCount) (regionStart (item .regions) region) P) (triples g (item .regions .axisCount) (regionStart (item .regions) region) Q)
+          (triples f (item .regions) region P) (triples g (item .regions) region Q)
       unfolding Same triples
       weighed-same region k e F G P Q h alike =
           let axisCount : ℕ = item .regions .axisCount in

@@ -10,7 +10,7 @@ use Rattle.readers.specs.Outcome.{Outcome, value, refused}
 use Rattle.readers.specs.Reading.{Reading, answer, refuse, tested, bytesAt, bigEndian, run}
 use Rattle.readers.specs.Walk.{each}
 use Rattle.store.specs.Region.{coordinate, Triple, tripleAt, skipped}
-use Rattle.store.specs.Item.{regionStart, Item, itemAt, regionIndexAt, deltaAt}
+use Rattle.store.specs.Item.{Regions, regionStart, Item, itemAt, regionIndexAt, deltaAt}
 use Rattle.store.specs.Metric.{Measure, storeOf, deltaSetIndexAt}
 use Rattle.store.specs.Mvar.{Header, headerAt, recordStart, indexIn, find}
 
@@ -69,14 +69,14 @@ whole font part rest = cond (leb (start part + size part) (length font)) (part �
 unfoldable pub tripleOf : List ℕ → ℕ → ℕ → List Part → List Part
 tripleOf font p axis rest = whole font (triple (p + 6 * axis) axis) rest
 
-unfoldable pub triples : List ℕ → ℕ → ℕ → List Part → List Part
-triples font axisCount p rest = each (tripleOf font p) rest axisCount 0
+unfoldable pub triples : List ℕ → Regions → ℕ → List Part → List Part
+triples font regions region rest = each (tripleOf font (regionStart regions region)) rest (regions .axisCount) 0
 
 -- One region of a row: its index, its triples, its entry.
 unfoldable pub entryParts : List ℕ → Item → ℕ → List Part → List Part
 entryParts font item k rest = do
   region ← partsOf font (regionIndexAt (item .regions .regionCount) (item .row .regionIndexes + 2 * k))
-  triples font (item .regions .axisCount) (regionStart (item .regions) region) do
+  triples font (item .regions) region do
     delta ← partsOf font (deltaAt (item .row .wordDeltaCount) (item .row .start) k)
     rest
 

@@ -1,0 +1,3 @@
+-- The laws that the proofs of the exports share; no second answer.
+pub mod Changed
+pub mod One

@@ -1,0 +1,27 @@
+-- `suolluvik::coords::suolluvik_instance_coords` meets its contract. Assumes nothing.
+use borrow.Author.Needs.{needs}
+use mathlib.Core.Path.{ap, _∙_}
+use Rattle.readers.specs.Outcome.{number, valueOr}
+use Rattle.suolluvik.proofs.coords.suolluvik_instance_coords.Statement.{statement}
+use Rattle.suolluvik.proofs.coords.suolluvik_instance_coords.Tie as tie
+
+new-requires : tie.Need-new-requires
+new-requires c κs = search needs
+
+instance-coords-requires : tie.Need-instance-coords-requires
+instance-coords-requires c κs = search needs
+
+half-value-requires : tie.Need-half-value-requires
+half-value-requires c κs = search needs
+
+same-length : tie.Need-same-length
+same-length c = search needs
+
+returns : tie.Need-returns
+returns c =
+    let told = c .half-value .ensures in
+    let call = rw (c .before .before .before .before .before .new .ensures) at (c .before .before .before .instance-coords .ensures) in
+    (told .0 ∙ ap number (call .0), (told .1 ∙ ap (valueOr 0) (call .0), call .1))
+
+pub suolluvik-instance-coords-spec : {M : Type 1} → statement M
+suolluvik-instance-coords-spec = tie.close (tie.spec new-requires instance-coords-requires half-value-requires same-length returns)

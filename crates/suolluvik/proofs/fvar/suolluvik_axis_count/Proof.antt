@@ -1,0 +1,15 @@
+-- `suolluvik::fvar::suolluvik_axis_count` meets its contract. Assumes nothing.
+use borrow.Author.Needs.{needs}
+use mathlib.Core.Path.{ap}
+use Rattle.axes.specs.Fvar.{Header}
+use Rattle.suolluvik.proofs.fvar.suolluvik_axis_count.Statement.{statement}
+use Rattle.suolluvik.proofs.fvar.suolluvik_axis_count.Tie as tie
+
+new-requires : tie.Need-new-requires
+new-requires c κs = search needs
+
+returns : tie.Need-returns
+returns c = ap (λ (h : Header). h .axisCount) (c .new .ensures)
+
+pub suolluvik-axis-count-spec : {M : Type 1} → statement M
+suolluvik-axis-count-spec = tie.close (tie.spec new-requires returns)

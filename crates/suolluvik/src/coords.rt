@@ -1,0 +1,48 @@
+// Coordinate lists: from settings, and for an instance. The fvar table is lent bare; avar is an offset in the font, 0 for none.
+use crate::fvar::half_value;
+use axes::fvar::Fvar;
+use axes::variation::instance_coords;
+use axes::variation::normalized_coords;
+ghost use mathlib.Core.Path.{_≡_};
+ghost use lib.ListN.{length};
+ghost use Rattle.readers.specs.Outcome.{number, valueOr};
+ghost use Rattle.axes.specs.Fvar.{headerOf};
+ghost use Rattle.axes.specs.Variation.{settingsCount, settingsCoords, instanceCount, instanceCoords};
+
+#[no_mangle]
+pub extern "C" fn suolluvik_normalized_coords(
+    table: &[u8],
+    font: &[u8],
+    avar: u32,
+    tags: &[u32],
+    values: &[f32],
+    out: &mut [i16],
+    count: &mut u16,
+) -> u8
+    ensures number { λ r. ⌜ r ≡ number (settingsCount (now (table .entry)) (headerOf (now (table .entry))) (now (font .entry)) avar (now (tags .entry)) (now (values .entry)) (length (now (out .entry)))) ⌝ }
+    ensures count { λ r. ⌜ now (count .exit) ≡ valueOr 0 (settingsCount (now (table .entry)) (headerOf (now (table .entry))) (now (font .entry)) avar (now (tags .entry)) (now (values .entry)) (length (now (out .entry)))) ⌝ }
+    ensures list { λ r. ⌜ now (out .exit) ≡ settingsCoords (now (table .entry)) (headerOf (now (table .entry))) (now (font .entry)) avar (now (tags .entry)) (now (values .entry)) (now (out .entry)) ⌝ }
+{
+    let fvar = Fvar::new(table);
+    half_value(
+        normalized_coords(fvar, table, font, avar, tags, values, out),
+        count,
+    )
+}
+
+#[no_mangle]
+pub extern "C" fn suolluvik_instance_coords(
+    table: &[u8],
+    font: &[u8],
+    avar: u32,
+    index: u16,
+    out: &mut [i16],
+    count: &mut u16,
+) -> u8
+    ensures number { λ r. ⌜ r ≡ number (instanceCount (now (table .entry)) (headerOf (now (table .entry))) (now (font .entry)) avar index (length (now (out .entry)))) ⌝ }
+    ensures count { λ r. ⌜ now (count .exit) ≡ valueOr 0 (instanceCount (now (table .entry)) (headerOf (now (table .entry))) (now (font .entry)) avar index (length (now (out .entry)))) ⌝ }
+    ensures list { λ r. ⌜ now (out .exit) ≡ instanceCoords (now (table .entry)) (headerOf (now (table .entry))) (now (font .entry)) avar index (now (out .entry)) ⌝ }
+{
+    let fvar = Fvar::new(table);
+    half_value(instance_coords(fvar, table, font, avar, index, out), count)
+}

@@ -1,0 +1,126 @@
+// The deltas of a glyph's advance and bearing, by HVAR or VVAR, and of a font's measures, by MVAR; each as a raw 16.16 number and as a float.
+use readers::FixedAnswer;
+use store::metric::advance_delta_fixed;
+use store::metric::float_of;
+use store::metric::sb_delta_fixed;
+use store::mvar::mvar_delta;
+ghost use mathlib.Core.Path.{_≡_};
+ghost use lib.IntN.{pos};
+ghost use Rattle.readers.specs.Outcome.{number, valueOr};
+ghost use Rattle.readers.specs.Answers.{outcomeFixed};
+ghost use Rattle.store.specs.Metric.{advance, bearing, metricDelta, floatOf};
+ghost use Rattle.store.specs.Mvar.{mvarDelta};
+
+// A delta as its raw number.
+fn fixed_value(delta: FixedAnswer, value: &mut i32) -> u8
+    ensures number { λ r. ⌜ r ≡ number (outcomeFixed delta) ⌝ }
+    ensures value { λ r. ⌜ now (value .exit) ≡ valueOr (pos 0) (outcomeFixed delta) ⌝ }
+{
+    match delta {
+        FixedAnswer::Value(x) => {
+            let raw = x.0;
+            *value = raw;
+            0
+        }
+        FixedAnswer::Refused(n) => {
+            *value = 0;
+            readers::number(n)
+        }
+    }
+}
+
+// A delta as a float.
+fn float_value(delta: FixedAnswer, value: &mut f32) -> u8
+    ensures number { λ r. ⌜ r ≡ number (outcomeFixed delta) ⌝ }
+    ensures value { λ r. ⌜ now (value .exit) ≡ floatOf (outcomeFixed delta) ⌝ }
+{
+    *value = float_of(delta);
+    match delta {
+        FixedAnswer::Value(_) => 0,
+        FixedAnswer::Refused(n) => readers::number(n),
+    }
+}
+
+#[no_mangle]
+pub extern "C" fn suolluvik_advance_delta_fixed(
+    font: &[u8],
+    xvar: u32,
+    glyph_id: u16,
+    coords: &[i16],
+    value: &mut i32,
+) -> u8
+    ensures number { λ r. ⌜ r ≡ number (metricDelta (now (font .entry)) xvar advance «glyph_id» (now (coords .entry))) ⌝ }
+    ensures value { λ r. ⌜ now (value .exit) ≡ valueOr (pos 0) (metricDelta (now (font .entry)) xvar advance «glyph_id» (now (coords .entry))) ⌝ }
+{
+    fixed_value(advance_delta_fixed(font, xvar, glyph_id, coords), value)
+}
+
+#[no_mangle]
+pub extern "C" fn suolluvik_advance_delta(
+    font: &[u8],
+    xvar: u32,
+    glyph_id: u16,
+    coords: &[i16],
+    value: &mut f32,
+) -> u8
+    ensures number { λ r. ⌜ r ≡ number (metricDelta (now (font .entry)) xvar advance «glyph_id» (now (coords .entry))) ⌝ }
+    ensures value { λ r. ⌜ now (value .exit) ≡ floatOf (metricDelta (now (font .entry)) xvar advance «glyph_id» (now (coords .entry))) ⌝ }
+{
+    float_value(advance_delta_fixed(font, xvar, glyph_id, coords), value)
+}
+
+#[no_mangle]
+pub extern "C" fn suolluvik_sb_delta_fixed(
+    font: &[u8],
+    xvar: u32,
+    glyph_id: u16,
+    coords: &[i16],
+    value: &mut i32,
+) -> u8
+    ensures number { λ r. ⌜ r ≡ number (metricDelta (now (font .entry)) xvar bearing «glyph_id» (now (coords .entry))) ⌝ }
+    ensures value { λ r. ⌜ now (value .exit) ≡ valueOr (pos 0) (metricDelta (now (font .entry)) xvar bearing «glyph_id» (now (coords .entry))) ⌝ }
+{
+    fixed_value(sb_delta_fixed(font, xvar, glyph_id, coords), value)
+}
+
+#[no_mangle]
+pub extern "C" fn suolluvik_sb_delta(
+    font: &[u8],
+    xvar: u32,
+    glyph_id: u16,
+    coords: &[i16],
+    value: &mut f32,
+) -> u8
+    ensures number { λ r. ⌜ r ≡ number (metricDelta (now (font .entry)) xvar bearing «glyph_id» (now (coords .entry))) ⌝ }
+    ensures value { λ r. ⌜ now (value .exit) ≡ floatOf (metricDelta (now (font .entry)) xvar bearing «glyph_id» (now (coords .entry))) ⌝ }
+{
+    float_value(sb_delta_fixed(font, xvar, glyph_id, coords), value)
+}
+
+#[no_mangle]
+pub extern "C" fn suolluvik_mvar_delta_fixed<'a>(
+    font: &'a [u8],
+    mvar: u32,
+    tag: u32,
+    coords: &'a [i16],
+    value: &mut i32,
+) -> u8
+    ensures number { λ r. ⌜ r ≡ number (mvarDelta (now (font .entry)) mvar tag (now (coords .entry))) ⌝ }
+    ensures value { λ r. ⌜ now (value .exit) ≡ valueOr (pos 0) (mvarDelta (now (font .entry)) mvar tag (now (coords .entry))) ⌝ }
+{
+    fixed_value(mvar_delta(font, mvar, tag, coords), value)
+}
+
+#[no_mangle]
+pub extern "C" fn suolluvik_mvar_delta<'a>(
+    font: &'a [u8],
+    mvar: u32,
+    tag: u32,
+    coords: &'a [i16],
+    value: &mut f32,
+) -> u8
+    ensures number { λ r. ⌜ r ≡ number (mvarDelta (now (font .entry)) mvar tag (now (coords .entry))) ⌝ }
+    ensures value { λ r. ⌜ now (value .exit) ≡ floatOf (mvarDelta (now (font .entry)) mvar tag (now (coords .entry))) ⌝ }
+{
+    float_value(mvar_delta(font, mvar, tag, coords), value)
+}

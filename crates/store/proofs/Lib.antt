@@ -8,6 +8,7 @@ pub mod Moved
 pub mod OnlyFootprint
 pub mod FootprintTable
 pub mod Entries
+pub mod Places
 pub mod Search
 pub mod Records
 pub mod Openings

@@ -9,25 +9,31 @@ use Rattle.store.specs.declared.item.RegionListAnswer.the-variants as L
 use Rattle.store.specs.declared.item.ItemData.{ItemData}
 use Rattle.store.specs.declared.item.ItemDataAnswer.{ItemDataAnswer}
 use Rattle.store.specs.declared.item.ItemDataAnswer.the-variants as I
+use Rattle.store.specs.declared.item.ItemAnswer.{ItemAnswer}
+use Rattle.store.specs.declared.item.ItemAnswer.the-variants as A
 
-abbrev pub regionsOf : ℕ → RegionList → Regions
-regionsOf store l = record { start = store + l .offset + 4; axisCount = l .«axis_count»; regionCount = l .«region_count» }
+abbrev pub regionsOf : RegionList → Regions
+regionsOf l = record { start = l .store + l .offset + 4; axisCount = l .«axis_count»; regionCount = l .«region_count» }
 
-abbrev pub regionsOutcome : ℕ → RegionListAnswer → Outcome Regions
-regionsOutcome store (L.Value l) = value (regionsOf store l)
-regionsOutcome store (L.Refused n) = refusal n
+abbrev pub regionsOutcome : RegionListAnswer → Outcome Regions
+regionsOutcome (L.Value l) = value (regionsOf l)
+regionsOutcome (L.Refused n) = refusal n
 
-abbrev pub rowOf : ℕ → ItemData → ℕ → Row
-rowOf store d inner = record {
-  regionIndexes = store + d .offset + 6;
+abbrev pub rowOf : ItemData → ℕ → Row
+rowOf d inner = record {
+  regionIndexes = d .store + d .offset + 6;
   regionIndexCount = d .«region_index_count»;
   wordDeltaCount = d .«word_count»;
-  start = store + d .offset + 6 + 2 * d .«region_index_count» + inner * (d .«region_index_count» + d .«word_count»);
+  start = d .store + d .offset + 6 + 2 * d .«region_index_count» + inner * (d .«region_index_count» + d .«word_count»);
 }
 
-abbrev pub rowOutcome : ℕ → ℕ → ItemDataAnswer → Outcome Row
-rowOutcome store inner (I.Value d) = value (rowOf store d inner)
-rowOutcome store inner (I.Refused n) = refusal n
+abbrev pub rowOutcome : ℕ → ItemDataAnswer → Outcome Row
+rowOutcome inner (I.Value d) = value (rowOf d inner)
+rowOutcome inner (I.Refused n) = refusal n
 
-abbrev pub itemOf : ℕ → RegionList → ItemData → ℕ → Item
-itemOf store l d inner = record { regions = regionsOf store l; row = rowOf store d inner }
+abbrev pub itemOf : RegionList → ItemData → ℕ → Item
+itemOf l d inner = record { regions = regionsOf l; row = rowOf d inner }
+
+abbrev pub itemOutcome : ℕ → ItemAnswer → Outcome Item
+itemOutcome inner (A.Value i) = value (itemOf (i .list) (i .«data») inner)
+itemOutcome inner (A.Refused n) = refusal n

@@ -14,11 +14,12 @@ ghost use mathlib.Core.Path.{_≡_};
 ghost use Prim.Native.Nat.{_^_, _<_};
 ghost use Rattle.readers.specs.Reading.{run};
 ghost use Rattle.readers.specs.Answers.{outcome16, outcomeI16, outcomeFixed};
-ghost use Rattle.store.specs.Item.{regionList, rowAt, regionIndexAt, deltaAt, itemSum, itemDelta};
-ghost use Rattle.store.specs.ItemAnswers.{regionsOutcome, rowOutcome, itemOf};
+ghost use Rattle.store.specs.Item.{regionList, rowAt, itemAt, regionIndexAt, deltaAt, itemSum, itemDelta};
+ghost use Rattle.store.specs.ItemAnswers.{regionsOutcome, rowOutcome, itemOf, itemOutcome};
 
-// The region list: its offset from the store.
+// The region list of a store: its offset from there.
 struct RegionList {
+    store: u32,
     offset: u32,
     axis_count: u16,
     region_count: u16,
@@ -29,8 +30,9 @@ enum RegionListAnswer {
     Refused(Refusal),
 }
 
-// A subtable: its offset from the store, and how many entries of a row are words.
+// A subtable of a store: its offset from there, and how many entries of a row are words.
 struct ItemData {
+    store: u32,
     offset: u32,
     region_index_count: u16,
     word_count: u16,
@@ -41,8 +43,19 @@ enum ItemDataAnswer {
     Refused(Refusal),
 }
 
+// What a store has for the rows of a subtable.
+struct Item {
+    list: RegionList,
+    data: ItemData,
+}
+
+enum ItemAnswer {
+    Value(Item),
+    Refused(Refusal),
+}
+
 fn region_list(font: &[u8], store: u32) -> RegionListAnswer
-    ensures { λ r. ⌜ regionsOutcome store r ≡ run (now (font .entry)) (regionList store) ⌝ }
+    ensures { λ r. ⌜ regionsOutcome r ≡ run (now (font .entry)) (regionList store) ⌝ }
 {
     let base = store as usize;
     let offset = match u32_at(font, base + 2) {
@@ -59,6 +72,7 @@ fn region_list(font: &[u8], store: u32) -> RegionListAnswer
         Half::Refused(n) => return RegionListAnswer::Refused(n),
     };
     RegionListAnswer::Value(RegionList {
+        store,
         offset,
         axis_count,
         region_count,
@@ -67,7 +81,7 @@ fn region_list(font: &[u8], store: u32) -> RegionListAnswer
 
 // The subtable of a row. The item count is not looked at, so that every inner index has a row here.
 fn item_data(font: &[u8], store: u32, outer: u32, inner: u16) -> ItemDataAnswer
-    ensures { λ r. ⌜ rowOutcome store inner r ≡ run (now (font .entry)) (rowAt store outer inner) ⌝ }
+    ensures { λ r. ⌜ rowOutcome inner r ≡ run (now (font .entry)) (rowAt store outer inner) ⌝ }
 {
     let base = store as usize;
     let offset = match u32_at(font, base + 8 + 4 * (outer as usize)) {
@@ -87,6 +101,7 @@ fn item_data(font: &[u8], store: u32, outer: u32, inner: u16) -> ItemDataAnswer
         return ItemDataAnswer::Refused(Refusal::Arithmetic);
     }
     ItemDataAnswer::Value(ItemData {
+        store,
         offset,
         region_index_count,
         word_count,
@@ -118,23 +133,15 @@ fn delta_at(font: &[u8], row: usize, word_count: u16, k: u16) -> Signed
 }
 
 // The sum over a row: of each region in turn its index, its scalar, its entry.
-fn row_sum(
-    font: &[u8],
-    store: u32,
-    list: RegionList,
-    data: ItemData,
-    inner: u16,
-    coords: &[i16],
-) -> FixedAnswer
-    ensures { λ r. ⌜ outcomeFixed r ≡ run (now (font .entry)) (itemSum (now (coords .entry)) (itemOf store list «data» inner)) ⌝ }
+fn row_sum(font: &[u8], list: RegionList, data: ItemData, inner: u16, coords: &[i16]) -> FixedAnswer
+    ensures { λ r. ⌜ outcomeFixed r ≡ run (now (font .entry)) (itemSum (now (coords .entry)) (itemOf list «data» inner)) ⌝ }
 {
-    let base = store as usize;
     let axis_count = list.axis_count;
     let region_count = list.region_count;
     let count = data.region_index_count;
     let word_count = data.word_count;
-    let regions = base + (list.offset as usize) + 4;
-    let indexes = base + (data.offset as usize) + 6;
+    let regions = (list.store as usize) + (list.offset as usize) + 4;
+    let indexes = (data.store as usize) + (data.offset as usize) + 6;
     let row = indexes
         + 2 * (count as usize)
         + (inner as usize) * ((count as usize) + (word_count as usize));
@@ -145,12 +152,7 @@ fn row_sum(
             Half::Value(x) => x,
             Half::Refused(n) => return FixedAnswer::Refused(n),
         };
-        let scalar = match region_scalar(
-            font,
-            regions + 6 * ((region as usize) * (axis_count as usize)),
-            axis_count,
-            coords,
-        ) {
+        let scalar = match region_scalar(font, regions, region, axis_count, coords) {
             FixedAnswer::Value(x) => x,
             FixedAnswer::Refused(n) => return FixedAnswer::Refused(n),
         };
@@ -164,27 +166,41 @@ fn row_sum(
     FixedAnswer::Value(sum)
 }
 
+// What the store has for an outer index: one answer for all that is read before the row, so that the row's loop has one test before it and stands in its caller.
+fn item_at(font: &[u8], store: u32, outer: u32, inner: u16) -> ItemAnswer
+    ensures { λ r. ⌜ itemOutcome inner r ≡ run (now (font .entry)) (itemAt store outer inner) ⌝ }
+{
+    if store == 0 {
+        return ItemAnswer::Refused(Refusal::Absent);
+    }
+    let count = match u16_at(font, (store as usize) + 6) {
+        Half::Value(x) => x,
+        Half::Refused(n) => return ItemAnswer::Refused(n),
+    };
+    if outer >= count as u32 {
+        return ItemAnswer::Refused(Refusal::Index);
+    }
+    let list = match region_list(font, store) {
+        RegionListAnswer::Value(x) => x,
+        RegionListAnswer::Refused(n) => return ItemAnswer::Refused(n),
+    };
+    let data = match item_data(font, store, outer, inner) {
+        ItemDataAnswer::Value(x) => x,
+        ItemDataAnswer::Refused(n) => return ItemAnswer::Refused(n),
+    };
+    ItemAnswer::Value(Item { list, data })
+}
+
 // Returns a delta from an item variation store. swash's outer index has 16 bits; an entry of a map can hold more, and the map cuts them.
 pub fn item_delta(font: &[u8], store: u32, outer: u32, inner: u16, coords: &[i16]) -> FixedAnswer
     ensures { λ r. ⌜ outcomeFixed r ≡ itemDelta (now (font .entry)) store outer inner (now (coords .entry)) ⌝ }
 {
-    if store == 0 {
-        return FixedAnswer::Refused(Refusal::Absent);
+    match item_at(font, store, outer, inner) {
+        ItemAnswer::Value(x) => {
+            let list = x.list;
+            let data = x.data;
+            row_sum(font, list, data, inner, coords)
+        }
+        ItemAnswer::Refused(n) => FixedAnswer::Refused(n),
     }
-    let count = match u16_at(font, (store as usize) + 6) {
-        Half::Value(x) => x,
-        Half::Refused(n) => return FixedAnswer::Refused(n),
-    };
-    if outer >= count as u32 {
-        return FixedAnswer::Refused(Refusal::Index);
-    }
-    let list = match region_list(font, store) {
-        RegionListAnswer::Value(x) => x,
-        RegionListAnswer::Refused(n) => return FixedAnswer::Refused(n),
-    };
-    let data = match item_data(font, store, outer, inner) {
-        ItemDataAnswer::Value(x) => x,
-        ItemDataAnswer::Refused(n) => return FixedAnswer::Refused(n),
-    };
-    row_sum(font, store, list, data, inner, coords)
 }

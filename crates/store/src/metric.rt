@@ -14,7 +14,7 @@ ghost use Prim.Native.Nat.{_+_, _-_, _*_, _^_, _<_, _≤_, min};
 ghost use Rattle.readers.specs.Reading.{run, unsignedAt};
 ghost use Rattle.readers.specs.Answers.{outcome32, outcomeFixed};
 ghost use Rattle.store.specs.Metric.{advance, bearing, mapField, mapEntry, storeOf, deltaSetIndexAt, metricDelta, floatOf};
-ghost use Rattle.store.specs.MetricAnswers.{measureOf, deltaSetOutcome};
+ghost use Rattle.store.specs.MetricAnswers.{measureOf, deltaSetOutcome, placeOf, placeOutcome, deltaFrom};
 
 // Which of a glyph's measures: advance width or height; left or top bearing.
 pub enum Measure {
@@ -30,6 +30,18 @@ struct DeltaSetIndex {
 
 enum DeltaSetAnswer {
     Value(DeltaSetIndex),
+    Refused(Refusal),
+}
+
+// Where the delta of a measure is: a store, and a delta-set index there.
+struct Place {
+    store: u32,
+    outer: u32,
+    inner: u16,
+}
+
+enum PlaceAnswer {
+    Value(Place),
     Refused(Refusal),
 }
 
@@ -146,6 +158,42 @@ fn delta_set(font: &[u8], base: u32, measure: Measure, glyph_id: u16) -> DeltaSe
     }
 }
 
+// Where the HVAR or VVAR at base has the delta of a glyph's measure.
+fn place_of(font: &[u8], base: u32, measure: Measure, glyph_id: u16) -> PlaceAnswer
+    ensures { λ r. ⌜ placeOutcome r ≡ run (now (font .entry)) (placeOf base (measureOf measure) «glyph_id») ⌝ }
+{
+    let store = match store_of(font, base) {
+        Word::Value(x) => x,
+        Word::Refused(n) => return PlaceAnswer::Refused(n),
+    };
+    let index = match delta_set(font, base, measure, glyph_id) {
+        DeltaSetAnswer::Value(x) => x,
+        DeltaSetAnswer::Refused(n) => return PlaceAnswer::Refused(n),
+    };
+    let outer = index.outer;
+    let inner = index.inner;
+    PlaceAnswer::Value(Place {
+        store,
+        outer,
+        inner,
+    })
+}
+
+// The delta at a place. It and `place_of` stand side by side in whoever asks: neither hands font and coordinates on to the other.
+fn delta_from(font: &[u8], place: PlaceAnswer, coords: &[i16]) -> FixedAnswer
+    ensures { λ r. ⌜ outcomeFixed r ≡ deltaFrom (now (font .entry)) (now (coords .entry)) (placeOutcome place) ⌝ }
+{
+    match place {
+        PlaceAnswer::Value(p) => {
+            let store = p.store;
+            let outer = p.outer;
+            let inner = p.inner;
+            item_delta(font, store, outer, inner, coords)
+        }
+        PlaceAnswer::Refused(n) => FixedAnswer::Refused(n),
+    }
+}
+
 // The delta of a glyph's measure, by the HVAR or VVAR at base.
 pub fn metric_delta(
     font: &[u8],
@@ -156,17 +204,7 @@ pub fn metric_delta(
 ) -> FixedAnswer
     ensures { λ r. ⌜ outcomeFixed r ≡ metricDelta (now (font .entry)) base (measureOf measure) «glyph_id» (now (coords .entry)) ⌝ }
 {
-    let store = match store_of(font, base) {
-        Word::Value(x) => x,
-        Word::Refused(n) => return FixedAnswer::Refused(n),
-    };
-    let index = match delta_set(font, base, measure, glyph_id) {
-        DeltaSetAnswer::Value(x) => x,
-        DeltaSetAnswer::Refused(n) => return FixedAnswer::Refused(n),
-    };
-    let outer = index.outer;
-    let inner = index.inner;
-    item_delta(font, store, outer, inner, coords)
+    delta_from(font, place_of(font, base, measure, glyph_id), coords)
 }
 
 // A delta as swash hands it out: 0.0 on any refusal.
@@ -183,24 +221,32 @@ pub fn float_of(delta: FixedAnswer) -> f32
 pub fn advance_delta_fixed(font: &[u8], xvar: u32, glyph_id: u16, coords: &[i16]) -> FixedAnswer
     ensures { λ r. ⌜ outcomeFixed r ≡ metricDelta (now (font .entry)) xvar advance «glyph_id» (now (coords .entry)) ⌝ }
 {
-    metric_delta(font, xvar, Measure::Advance, glyph_id, coords)
+    delta_from(
+        font,
+        place_of(font, xvar, Measure::Advance, glyph_id),
+        coords,
+    )
 }
 
 pub fn advance_delta(font: &[u8], xvar: u32, glyph_id: u16, coords: &[i16]) -> f32
     ensures { λ r. ⌜ r ≡ floatOf (metricDelta (now (font .entry)) xvar advance «glyph_id» (now (coords .entry))) ⌝ }
 {
-    float_of(metric_delta(font, xvar, Measure::Advance, glyph_id, coords))
+    float_of(advance_delta_fixed(font, xvar, glyph_id, coords))
 }
 
 // The delta of a side bearing, as an answer and as a float.
 pub fn sb_delta_fixed(font: &[u8], xvar: u32, glyph_id: u16, coords: &[i16]) -> FixedAnswer
     ensures { λ r. ⌜ outcomeFixed r ≡ metricDelta (now (font .entry)) xvar bearing «glyph_id» (now (coords .entry)) ⌝ }
 {
-    metric_delta(font, xvar, Measure::Bearing, glyph_id, coords)
+    delta_from(
+        font,
+        place_of(font, xvar, Measure::Bearing, glyph_id),
+        coords,
+    )
 }
 
 pub fn sb_delta(font: &[u8], xvar: u32, glyph_id: u16, coords: &[i16]) -> f32
     ensures { λ r. ⌜ r ≡ floatOf (metricDelta (now (font .entry)) xvar bearing «glyph_id» (now (coords .entry))) ⌝ }
 {
-    float_of(metric_delta(font, xvar, Measure::Bearing, glyph_id, coords))
+    float_of(sb_delta_fixed(font, xvar, glyph_id, coords))
 }

@@ -4,7 +4,7 @@ use numbers::Fixed;
 use readers::FixedAnswer;
 use readers::Refusal;
 ghost use mathlib.Core.Path.{_≡_};
-ghost use Prim.Native.Nat.{_+_, _^_, _<_, _≤_};
+ghost use Prim.Native.Nat.{_+_, _*_, _^_, _<_, _≤_};
 ghost use lib.ListN.{length};
 ghost use mir.Syntax.{w16};
 ghost use mir.Val.{toZ};
@@ -110,15 +110,25 @@ fn axis_at(font: &[u8], at: usize, c: F2Dot14, scalar: Fixed) -> AxisAnswer
     }
 }
 
-// The scalar of the region whose triples start at a position: outside one of them it is 0, and the rest is not read.
-pub(crate) fn region_scalar(font: &[u8], at: usize, axis_count: u16, coords: &[i16]) -> FixedAnswer
-    requires { ⌜ at < 2 ^ 40 ⌝ }
-    ensures { λ r. ⌜ outcomeFixed r ≡ run (now (font .entry)) (regionScalar (now (coords .entry)) «axis_count» at) ⌝ }
+// The scalar of a region of the list whose regions start at a position: outside one of its triples it is 0, and the rest is not read. The triples are counted
+// over the whole list: a bound that is the same for every region would have the compiler make a second row loop for lists without axes.
+pub(crate) fn region_scalar(
+    font: &[u8],
+    regions: usize,
+    region: u16,
+    axis_count: u16,
+    coords: &[i16],
+) -> FixedAnswer
+    requires { ⌜ regions < 2 ^ 40 ⌝ }
+    ensures { λ r. ⌜ outcomeFixed r ≡ run (now (font .entry)) (regionScalar (now (coords .entry)) «axis_count» (regions + 6 * (region * «axis_count»))) ⌝ }
 {
     let n = axis_count as usize;
+    let first = (region as usize) * n;
+    let end = ((region as usize) + 1) * n;
+    let at = regions + 6 * first;
     let mut scalar = Fixed::ONE;
     let mut axis: usize = 0;
-    while axis < n {
+    while first + axis < end {
         scalar = match axis_at(font, at + 6 * axis, coordinate(coords, axis), scalar) {
             AxisAnswer::Next(next) => next,
             AxisAnswer::Outside => return FixedAnswer::Value(Fixed::ZERO),

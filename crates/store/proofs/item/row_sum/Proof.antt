@@ -32,23 +32,18 @@ itemOver axes count indexCount words start indexes row = record {
 }
 
 abbrev Inv-loop : tie.InvT-loop
-Inv-loop font store inner coords base axis-count region-count count word-count regions indexes row sum₀ k₀ sum k =
+Inv-loop font inner coords axis-count region-count count word-count regions indexes row sum₀ k₀ sum k =
     let item = itemOver axis-count region-count count word-count regions indexes row in
     (k ≤ count) × (run font (sumFrom coords item k (sum .0)) ≡ run font (itemSum coords item))
 
 abbrev μ-loop : tie.MeasureT-loop
-μ-loop font store inner coords base axis-count region-count count word-count regions indexes row sum₀ k₀ sum k = count - k
+μ-loop font inner coords axis-count region-count count word-count regions indexes row sum₀ k₀ sum k = count - k
 
--- The two products, so that no position wraps.
-row-small : (c : tie.After-struct-known2 Inv-loop μ-loop)
-    → let a = c .before .before .before .args in
+-- The row's product, so that no position wraps.
+row-small : (c : tie.After-struct-known4 Inv-loop μ-loop)
+    → let a = c .before .before .before .before .before .args in
     a .inner * (a .«data» .«region_index_count» + a .«data» .«word_count») ≤ 65535 * 131070
 row-small c = mul-le-mul {n₂ = 65535} {m₂ = 131070} (omega arith) (omega arith)
-
-region-small : (c : tie.After-known-told Inv-loop μ-loop)
-    → let a = c .before .before .before .before .before .before .before .before .before .args in
-    c .before .x .given .0 .0 * a .list .«axis_count» ≤ 65535 * 65535
-region-small c = mul-le-mul {n₂ = 65535} {m₂ = 65535} (omega arith) (omega arith)
 
 -- What `add_product` said, of the entry itself.
 told : (c : tie.After-add-product Inv-loop μ-loop)
@@ -62,6 +57,9 @@ told c =
 cast-regions : tie.Need-cast-regions Inv-loop μ-loop
 cast-regions c = search needs
 
+cast-regions-2 : tie.Need-cast-regions-2 Inv-loop μ-loop
+cast-regions-2 c = search needs
+
 add-regions : tie.Need-add-regions Inv-loop μ-loop
 add-regions c = search needs
 
@@ -70,6 +68,9 @@ add-regions-2 c = search needs
 
 cast-indexes : tie.Need-cast-indexes Inv-loop μ-loop
 cast-indexes c = search needs
+
+cast-indexes-2 : tie.Need-cast-indexes-2 Inv-loop μ-loop
+cast-indexes-2 c = search needs
 
 add-indexes : tie.Need-add-indexes Inv-loop μ-loop
 add-indexes c = search needs
@@ -129,23 +130,8 @@ returns c =
     run-turned _ _ _ _ _ _ _ _ (c .before .before .before .before .before .loop .inv .1) (c .before .before .before .before .loop-test .taken)
     (stop16 _ _ _ (c .before .before .before .region-index .ensures) (c .before .n .given .1))
 
-cast-region-scalar : tie.Need-cast-region-scalar Inv-loop μ-loop
-cast-region-scalar c = search needs
-
-cast-region-scalar-2 : tie.Need-cast-region-scalar-2 Inv-loop μ-loop
-cast-region-scalar-2 c = search needs
-
-mul-region-scalar : tie.Need-mul-region-scalar Inv-loop μ-loop
-mul-region-scalar c = omega (arith, region-small c)
-
-mul-region-scalar-2 : tie.Need-mul-region-scalar-2 Inv-loop μ-loop
-mul-region-scalar-2 c = omega (arith, region-small c)
-
-add-region-scalar : tie.Need-add-region-scalar Inv-loop μ-loop
-add-region-scalar c = omega (arith, region-small c)
-
 region-scalar-requires : tie.Need-region-scalar-requires Inv-loop μ-loop
-region-scalar-requires c κs = omega (arith, region-small c)
+region-scalar-requires c κs = search needs
 
 enum-known-x-2 : tie.Need-enum-known-x-2 Inv-loop μ-loop
 enum-known-x-2 c = search needs
@@ -212,9 +198,11 @@ row-sum-spec =
     Inv-loop
     μ-loop
     cast-regions
+    cast-regions-2
     add-regions
     add-regions-2
     cast-indexes
+    cast-indexes-2
     add-indexes
     add-indexes-2
     cast-row
@@ -233,11 +221,6 @@ row-sum-spec =
     enum-known-x
     enum-known-n
     returns
-    cast-region-scalar
-    cast-region-scalar-2
-    mul-region-scalar
-    mul-region-scalar-2
-    add-region-scalar
     region-scalar-requires
     enum-known-x-2
     enum-known-n-2

@@ -3,14 +3,14 @@ use borrow.Author.Needs.{needs}
 use Rattle.store.proofs.metric.advance_delta.Statement.{statement}
 use Rattle.store.proofs.metric.advance_delta.Tie as tie
 
-metric-delta-requires : tie.Need-metric-delta-requires
-metric-delta-requires c κs = search needs
+advance-delta-fixed-requires : tie.Need-advance-delta-fixed-requires
+advance-delta-fixed-requires c κs = search needs
 
 float-of-requires : tie.Need-float-of-requires
 float-of-requires c κs = search needs
 
 returns : tie.Need-returns
-returns c = rw (← c .before .metric-delta .ensures) (c .float-of .ensures)
+returns c = rw (← c .before .advance-delta-fixed .ensures) (c .float-of .ensures)
 
 pub advance-delta-spec : {M : Type 1} → statement M
-advance-delta-spec = tie.close (tie.spec metric-delta-requires float-of-requires returns)
+advance-delta-spec = tie.close (tie.spec advance-delta-fixed-requires float-of-requires returns)

@@ -1,0 +1,444 @@
+/* Calls every function of suolluvik.h, with an answer that document 01 gives or that follows from its rules, and with each
+ * refusal that the function can give. Values and lists hold something else before each call. A failed check is a line; the
+ * last line is 'N passed, M failed', and the status 1 where one failed. tests/link builds and runs this. */
+#include "suolluvik.h"
+
+#include <stdio.h>
+
+static int passed, failed;
+
+static void check(int holds, const char *function, const char *name)
+{
+    if (holds) {
+        passed++;
+    } else {
+        failed++;
+        printf("failed, in C: %s: %s\n", function, name);
+    }
+}
+
+/* Some bytes, given by hexadecimal digits. */
+struct bytes {
+    uint8_t at[256];
+    size_t len;
+};
+
+static struct bytes bytes(const char *hex)
+{
+    struct bytes b;
+    b.len = 0;
+    for (; *hex; hex++) {
+        unsigned byte = 0;
+        if (*hex != ' ') {
+            sscanf(hex, "%2x", &byte);
+            b.at[b.len++] = (uint8_t)byte;
+            hex++;
+        }
+    }
+    return b;
+}
+
+/* The deltas. */
+
+/* An HVAR at 4: the offsets of its store and of its two maps. */
+#define HVAR(store, advances, bearings) "00000000 00010000 " store advances bearings
+#define PLAIN HVAR("00000010", "00000000", "00000000")
+/* A store with a region, its one row and the entry. */
+#define STORE(triple, entry) "0001 0000000c 0001 00000016 0001 0001" triple "0001 0000 0001 0000" entry
+#define S1 PLAIN STORE("000040004000", "64")
+#define S2 PLAIN STORE("000030004000", "03")
+#define S3 PLAIN STORE("c00020004000", "03")
+#define S4 PLAIN "0001 0000000c 0001 0000001c 0001 0002 c00020004000 c00020004000 0001 0002 0002 0000 0001 7fff 7fff"
+#define S5 PLAIN "0001 0000000c 0001 00000010 0001 0000 0001 0000 0000"
+/* H1's map, for advances and for bearings, its store, and its store with a wrong region index and a wrong word count. */
+#define MAPS HVAR("00000018", "00000010", "00000010")
+#define MAP "0007 0003 000102 00"
+#define H1_ROWS(words, region) "0001 0000000c 0001 00000010 0000 0001 0003" words "0001" region "0a0b0c"
+#define H1 MAPS MAP H1_ROWS("0000", "0000")
+
+/* An MVAR at 4 with the eleven measures, sorted; inner comes before outer. Its rows are words; S1's triple. */
+#define MVAR_HEADER(count, store) "00000000 0001 0000 0000 0008" count store
+#define RECORDS \
+    "63706874 0000 0000 68617363 0001 0000 68647363 0002 0000 686c6770 0003 0000 7374726f 0004 0000 756e646f 0005 0000" \
+    "756e6473 0006 0000 76617363 0007 0000 76647363 0008 0000 766c6770 0009 0000 78686774 000a 0000"
+#define ROWS(words) \
+    "0001 0000000c 0001 00000016 0001 0001 000040004000 000b" words "0001 0000" \
+    "0028 0064 ffc4 000a 000c fff8 0006 00c8 ff9c 000e 001e"
+#define MEASURES MVAR_HEADER("000b", "0064") RECORDS ROWS("0001")
+#define ONE_RECORD(tail) MVAR_HEADER("0001", "0014") "68617363" tail "0001 0000000c 0001 00000016"
+
+#define TAG(a, b, c, d) ((uint32_t)(a) << 24 | (uint32_t)(b) << 16 | (uint32_t)(c) << 8 | (uint32_t)(d))
+#define HASC TAG('h', 'a', 's', 'c')
+#define XHGT TAG('x', 'h', 'g', 't')
+
+enum kind { ADVANCE, BEARING, MEASURE };
+
+struct delta {
+    enum kind kind;
+    const char *name, *font;
+    uint32_t offset, id;
+    size_t coords_len;
+    int16_t coord;
+    uint8_t number;
+    int32_t value;
+};
+
+static const struct delta deltas[] = {
+    {ADVANCE, "S1 at 8192", S1, 4, 0, 1, 8192, 0, 3276800},
+    {ADVANCE, "S1 at 16384", S1, 4, 0, 1, 16384, 0, 6553600},
+    {ADVANCE, "S1 at 0", S1, 4, 0, 1, 0, 0, 0},
+    {ADVANCE, "S1 at -1", S1, 4, 0, 1, -1, 0, 0},
+    {ADVANCE, "S1, no coordinates", S1, 4, 0, 0, 0, 0, 0},
+    {ADVANCE, "S2", S2, 4, 0, 1, 4096, 0, 65535},
+    {ADVANCE, "S3", S3, 4, 0, 1, 4096, 0, 196608},
+    {ADVANCE, "S3, no coordinates", S3, 4, 0, 0, 0, 0, 196608},
+    {ADVANCE, "S4", S4, 4, 0, 1, 0, 0, -131072},
+    {ADVANCE, "S5", S5, 4, 0, 1, 0, 0, 0},
+    {ADVANCE, "H1, glyph 0", H1, 4, 0, 0, 0, 0, 655360},
+    {ADVANCE, "H1, glyph 1", H1, 4, 1, 0, 0, 0, 720896},
+    {ADVANCE, "H1, glyph 2", H1, 4, 2, 0, 0, 0, 786432},
+    {ADVANCE, "H1, glyph 3", H1, 4, 3, 0, 0, 0, 786432},
+    {ADVANCE, "H1, glyph 65535", H1, 4, 65535, 0, 0, 0, 786432},
+    {ADVANCE, "no HVAR", S1, 0, 0, 1, 8192, 1, 0},
+    {ADVANCE, "no store", HVAR("00000000", "00000000", "00000000"), 4, 0, 1, 8192, 1, 0},
+    {ADVANCE, "an empty font", "", 4, 0, 1, 8192, 2, 0},
+    {ADVANCE, "S1 without its entry", PLAIN STORE("000040004000", ""), 4, 0, 1, 8192, 2, 0},
+    {ADVANCE, "an offset far past the end", S1, 0xffffffff, 0, 1, 8192, 2, 0},
+    {ADVANCE, "no subtable", PLAIN "0001 0000000c 0000 00000016", 4, 0, 1, 8192, 3, 0},
+    {ADVANCE, "a region past the count", MAPS MAP H1_ROWS("0000", "0001"), 4, 0, 0, 0, 3, 0},
+    {ADVANCE, "a map without entries", MAPS "0007 0000" H1_ROWS("0000", "0000"), 4, 0, 0, 0, 5, 0},
+    {ADVANCE, "more words than regions", MAPS MAP H1_ROWS("0002", "0000"), 4, 0, 0, 0, 5, 0},
+    {ADVANCE, "a store at 2^32", HVAR("fffffffc", "00000000", "00000000"), 4, 0, 0, 0, 5, 0},
+    {BEARING, "H1, glyph 0", H1, 4, 0, 0, 0, 0, 655360},
+    {BEARING, "H1, glyph 1", H1, 4, 1, 0, 0, 0, 720896},
+    {BEARING, "H1, glyph 65535", H1, 4, 65535, 0, 0, 0, 786432},
+    {BEARING, "no HVAR", H1, 0, 0, 0, 0, 1, 0},
+    {BEARING, "no store", HVAR("00000000", "00000010", "00000010") MAP, 4, 0, 0, 0, 1, 0},
+    {BEARING, "no map: S1", S1, 4, 0, 1, 8192, 1, 0},
+    {BEARING, "a font that ends in the HVAR", "00000000 00010000 00000018 00000010 000000", 4, 0, 0, 0, 2, 0},
+    {BEARING, "a region past the count", MAPS MAP H1_ROWS("0000", "0001"), 4, 0, 0, 0, 3, 0},
+    {BEARING, "a map without entries", MAPS "0007 0000" H1_ROWS("0000", "0000"), 4, 0, 0, 0, 5, 0},
+    {BEARING, "more words than regions", MAPS MAP H1_ROWS("0002", "0000"), 4, 0, 0, 0, 5, 0},
+    {MEASURE, "hasc halfway", MEASURES, 4, HASC, 1, 8192, 0, 3276800},
+    {MEASURE, "hasc", MEASURES, 4, HASC, 1, 16384, 0, 6553600},
+    {MEASURE, "xhgt, the last one", MEASURES, 4, XHGT, 1, 16384, 0, 1966080},
+    {MEASURE, "hasc, no coordinates", MEASURES, 4, HASC, 0, 0, 0, 0},
+    {MEASURE, "an MVAR at 0", "0001 0000 0000 0008 0001 0014 68617363 0000 0000" STORE("000040004000", "64"), 0, HASC, 1, 8192, 0, 3276800},
+    {MEASURE, "no records", MVAR_HEADER("0000", "0064") RECORDS ROWS("0001"), 4, HASC, 1, 8192, 1, 0},
+    {MEASURE, "no store", MVAR_HEADER("000b", "0000") RECORDS ROWS("0001"), 4, HASC, 1, 8192, 1, 0},
+    {MEASURE, "an offset past the end", MEASURES, 255, HASC, 1, 8192, 2, 0},
+    {MEASURE, "a font that ends in the header", "00000000 0001 0000 0000 0008 000b 00", 4, HASC, 1, 8192, 2, 0},
+    {MEASURE, "a subtable past the count", ONE_RECORD("0000 0001"), 4, HASC, 1, 8192, 3, 0},
+    {MEASURE, "another tag", MEASURES, 4, TAG('s', 't', 'r', 's'), 1, 8192, 4, 0},
+    {MEASURE, "more words than regions", MVAR_HEADER("000b", "0064") RECORDS ROWS("0002"), 4, HASC, 1, 8192, 5, 0},
+};
+
+static void try_deltas(void)
+{
+    static const char *const names[][2] = {
+        {"advance_delta_fixed", "advance_delta"}, {"sb_delta_fixed", "sb_delta"}, {"mvar_delta_fixed", "mvar_delta"}};
+    size_t i;
+    for (i = 0; i < sizeof deltas / sizeof *deltas; i++) {
+        const struct delta *d = &deltas[i];
+        struct bytes font = bytes(d->font);
+        uint16_t glyph = (uint16_t)d->id;
+        int32_t value = 12345;
+        float real = 123.5f;
+        uint8_t number = 99, number_of_real = 99;
+        switch (d->kind) {
+        case ADVANCE:
+            number = suolluvik_advance_delta_fixed(font.at, font.len, d->offset, glyph, &d->coord, d->coords_len, &value);
+            number_of_real = suolluvik_advance_delta(font.at, font.len, d->offset, glyph, &d->coord, d->coords_len, &real);
+            break;
+        case BEARING:
+            number = suolluvik_sb_delta_fixed(font.at, font.len, d->offset, glyph, &d->coord, d->coords_len, &value);
+            number_of_real = suolluvik_sb_delta(font.at, font.len, d->offset, glyph, &d->coord, d->coords_len, &real);
+            break;
+        case MEASURE:
+            number = suolluvik_mvar_delta_fixed(font.at, font.len, d->offset, d->id, &d->coord, d->coords_len, &value);
+            number_of_real = suolluvik_mvar_delta(font.at, font.len, d->offset, d->id, &d->coord, d->coords_len, &real);
+            break;
+        }
+        check(number == d->number && value == d->value, names[d->kind][0], d->name);
+        /* each of these numbers is a float */
+        check(number_of_real == d->number && real == (float)d->value / 65536.0f, names[d->kind][1], d->name);
+    }
+}
+
+/* Axes and instances. */
+
+/* A header: how many axes, of which size, how many instances, of which size. */
+#define FVAR(axes, size, instances, instance_size) "00010000 0010 0002" axes size instances instance_size
+#define WGHT "77676874 00640000 01900000 03840000 0000 0100"
+#define SLNT "736c6e74 fff60000 00000000 00000000 0001 0101"
+/* Document 01's listing; a second axis; instances with a PostScript name id, at 700 and at 650. */
+#define LISTED FVAR("0001", "0014", "0000", "0008") WGHT
+#define TWO FVAR("0002", "0014", "0001", "000c") WGHT SLNT "0102 0000 028a0000 fffb0000"
+#define NAMED FVAR("0001", "0014", "0002", "000a") WGHT "0101 0000 02bc0000 0111 0102 0000 028a0000 0112"
+#define UNSIZED(size) FVAR("0001", "0014", "0001", size) WGHT "0102 0000 028a0000"
+/* N2's axis and N3's, whose instance is at min. */
+#define N2 FVAR("0001", "0014", "0001", "0008") "77676874 00000000 00000000 00000000 0000 0100 0102 0000 00050000"
+#define N3 FVAR("0001", "0014", "0001", "0008") "77676874 80000000 00000000 00000000 0000 0100 0102 0000 80000000"
+/* A1's map, at 4. */
+#define AVAR "00000000 00010000 0000 0001 0004 c000c000 00000000 20001000 40004000"
+
+#define WEIGHT TAG('w', 'g', 'h', 't')
+#define SLANT TAG('s', 'l', 'n', 't')
+
+static void try_counts(void)
+{
+    struct bytes fvar = bytes(NAMED);
+    check(suolluvik_axis_count(fvar.at, fvar.len) == 1, "axis_count", "one");
+    check(suolluvik_instance_count(fvar.at, fvar.len) == 2, "instance_count", "two");
+    check(suolluvik_axis_count(fvar.at, 9) == 0, "axis_count", "cut");
+    check(suolluvik_instance_count(fvar.at, 13) == 0, "instance_count", "cut");
+    check(suolluvik_axis_count(fvar.at, 0) == 0, "axis_count", "an empty table");
+    check(suolluvik_instance_count(fvar.at, 0) == 0, "instance_count", "an empty table");
+}
+
+static void try_axis(const char *name, const char *hex, uint16_t index, uint8_t number, uint32_t tag, int32_t min,
+                     int32_t default_value, int32_t max, uint16_t flags, uint16_t name_id)
+{
+    struct bytes fvar = bytes(hex);
+    uint32_t found_tag = 77;
+    int32_t found_min = 77, found_default = 77, found_max = 77;
+    uint16_t found_flags = 77, found_name = 77;
+    uint8_t found = suolluvik_axis(fvar.at, fvar.len, index, &found_tag, &found_min, &found_default, &found_max, &found_flags,
+                                   &found_name);
+    check(found == number && found_tag == tag && found_min == min && found_default == default_value &&
+              found_max == max && found_flags == flags && found_name == name_id,
+          "axis", name);
+}
+
+static void try_tag(const char *name, const char *hex, uint32_t tag, uint8_t number, uint16_t index, int32_t min,
+                    int32_t default_value, int32_t max, uint16_t flags, uint16_t name_id)
+{
+    struct bytes fvar = bytes(hex);
+    int32_t found_min = 77, found_default = 77, found_max = 77;
+    uint16_t found_index = 77, found_flags = 77, found_name = 77;
+    uint8_t found = suolluvik_axis_by_tag(fvar.at, fvar.len, tag, &found_index, &found_min, &found_default, &found_max,
+                                          &found_flags, &found_name);
+    check(found == number && found_index == index && found_min == min && found_default == default_value &&
+              found_max == max && found_flags == flags && found_name == name_id,
+          "axis_by_tag", name);
+}
+
+static void try_axes(void)
+{
+    try_axis("document 01's listing", LISTED, 0, 0, 0x77676874, 6553600, 26214400, 58982400, 0, 256);
+    try_axis("the second one", TWO, 1, 0, SLANT, -655360, 0, 0, 1, 257);
+    try_axis("cut", FVAR("0001", "0014", "0000", "0008") "77676874 00640000 01900000 03840000 0000 01", 0, 2, 0, 0, 0,
+             0, 0, 0);
+    try_axis("past the count", LISTED, 1, 3, 0, 0, 0, 0, 0, 0);
+    try_tag("document 01's listing", LISTED, WEIGHT, 0, 0, 6553600, 26214400, 58982400, 0, 256);
+    try_tag("the second one", TWO, SLANT, 0, 1, -655360, 0, 0, 1, 257);
+    try_tag("another tag", TWO, TAG('w', 'd', 't', 'h'), 4, 0, 0, 0, 0, 0, 0);
+    try_tag("cut", FVAR("0001", "0014", "0000", "0008") "77676874 00640000", WEIGHT, 4, 0, 0, 0, 0, 0, 0);
+    check(suolluvik_fixed_to_f32(6553600) == 100.0f, "fixed_to_f32", "100");
+    check(suolluvik_fixed_to_f32(-1) == -1.0f / 65536.0f, "fixed_to_f32", "the greatest below 0");
+    check(suolluvik_fixed_to_f32(2147483647) == 32768.0f, "fixed_to_f32", "the largest, rounded");
+}
+
+static void try_instance(const char *name, const char *hex, uint16_t index, uint8_t number, uint16_t name_id,
+                         uint8_t has_postscript_name, uint16_t postscript_name_id)
+{
+    struct bytes fvar = bytes(hex);
+    uint16_t found_name = 77, found_id = 77;
+    uint8_t found_has = 77;
+    uint8_t found = suolluvik_instance(fvar.at, fvar.len, index, &found_name, &found_has, &found_id);
+    check(found == number && found_name == name_id && found_has == has_postscript_name &&
+              found_id == postscript_name_id,
+          "instance", name);
+}
+
+/* The list has two elements more than it is said to have, and holds -77: what is expected stands in its first ones. */
+static void try_floats(const char *name, const char *hex, uint16_t index, size_t out_len, uint8_t number,
+                       uint16_t count, float first, float second)
+{
+    struct bytes fvar = bytes(hex);
+    float out[4] = {-77, -77, -77, -77};
+    uint16_t found_count = 77;
+    uint8_t found = suolluvik_instance_floats(fvar.at, fvar.len, index, out, out_len, &found_count);
+    check(found == number && found_count == count && out[0] == first && out[1] == second && out[2] == -77 &&
+              out[3] == -77,
+          "instance_floats", name);
+}
+
+static void try_instances(void)
+{
+    /* the id is read at 8 from the table's start, where the axis count stands */
+    try_instance("with a PostScript name", NAMED, 0, 0, 0x101, 1, 1);
+    try_instance("the second one", NAMED, 1, 0, 0x102, 1, 1);
+    try_instance("without a PostScript name", TWO, 0, 0, 0x102, 0, 0);
+    try_instance("cut", FVAR("0001", "0014", "0001", "0008") WGHT "0102 0000 028a00", 0, 2, 0, 0, 0);
+    try_instance("past the count", NAMED, 2, 3, 0, 0, 0);
+    try_instance("of size 0", UNSIZED("0000"), 0, 5, 0, 0, 0);
+    try_instance("of size 1", UNSIZED("0001"), 0, 5, 0, 0, 0);
+    try_floats("one axis, the list is just long enough", NAMED, 0, 1, 0, 1, 700, -77);
+    try_floats("one axis, the list is longer", NAMED, 1, 2, 0, 1, 650, -77);
+    try_floats("two axes", TWO, 0, 2, 0, 2, 650, -5);
+    try_floats("cut", FVAR("0001", "0014", "0001", "0008") WGHT "0102 0000 028a00", 0, 2, 2, 0, -77, -77);
+    try_floats("past the count", NAMED, 2, 2, 3, 0, -77, -77);
+    try_floats("of size 1", UNSIZED("0001"), 0, 2, 5, 0, -77, -77);
+    try_floats("a list that is too short", TWO, 0, 1, 7, 0, -77, -77);
+    try_floats("an empty list", NAMED, 0, 0, 7, 0, -77, -77);
+}
+
+/* Coordinates. */
+
+static void try_settings(const char *name, const char *hex, uint32_t avar, size_t tags_len, uint32_t tag0,
+                         uint32_t tag1, size_t values_len, float value0, float value1, size_t out_len, uint8_t number,
+                         uint16_t count, int16_t first, int16_t second)
+{
+    struct bytes fvar = bytes(hex), font = bytes(AVAR);
+    uint32_t tags[2];
+    float values[2];
+    int16_t out[4] = {-77, -77, -77, -77};
+    uint16_t found_count = 77;
+    uint8_t found;
+    tags[0] = tag0, tags[1] = tag1;
+    values[0] = value0, values[1] = value1;
+    found = suolluvik_normalized_coords(fvar.at, fvar.len, font.at, font.len, avar, tags, tags_len, values, values_len, out,
+                                        out_len, &found_count);
+    check(found == number && found_count == count && out[0] == first && out[1] == second && out[2] == -77 &&
+              out[3] == -77,
+          "normalized_coords", name);
+}
+
+static void try_instance_coords(const char *name, const char *hex, uint32_t avar, uint16_t index, size_t out_len,
+                                uint8_t number, uint16_t count, int16_t first, int16_t second)
+{
+    struct bytes fvar = bytes(hex), font = bytes(AVAR);
+    int16_t out[4] = {-77, -77, -77, -77};
+    uint16_t found_count = 77;
+    uint8_t found =
+        suolluvik_instance_coords(fvar.at, fvar.len, font.at, font.len, avar, index, out, out_len, &found_count);
+    check(found == number && found_count == count && out[0] == first && out[1] == second && out[2] == -77 &&
+              out[3] == -77,
+          "instance_coords", name);
+}
+
+static void try_coords(void)
+{
+    int16_t out[34];
+    uint32_t tag = WEIGHT;
+    float value = 650;
+    uint16_t count = 77;
+    struct bytes fvar = bytes(FVAR("0021", "0000", "0000", "0008") WGHT);
+    int i, same;
+    uint8_t number;
+
+    try_settings("N1, 650", LISTED, 0, 1, WEIGHT, 0, 1, 650, 0, 1, 0, 1, 8192, -77);
+    try_settings("N1, 300", LISTED, 0, 1, WEIGHT, 0, 1, 300, 0, 2, 0, 1, -5461, -77);
+    try_settings("N1, 50", LISTED, 0, 1, WEIGHT, 0, 1, 50, 0, 2, 0, 1, -16384, -77);
+    try_settings("N1, 400", LISTED, 0, 1, WEIGHT, 0, 1, 400, 0, 2, 0, 1, 0, -77);
+    try_settings("N2", N2, 0, 1, WEIGHT, 0, 1, 5, 0, 2, 0, 1, 0, -77);
+    try_settings("A1", LISTED, 4, 1, WEIGHT, 0, 1, 525, 0, 2, 0, 1, 2048, -77);
+    try_settings("the last one wins", LISTED, 0, 2, WEIGHT, WEIGHT, 2, 300, 650, 2, 0, 1, 8192, -77);
+    try_settings("two axes", TWO, 0, 2, SLANT, WEIGHT, 2, -5, 650, 2, 0, 2, 8192, -8192);
+    try_settings("an axis without a setting", TWO, 0, 1, SLANT, 0, 1, -5, 0, 2, 0, 2, 0, -8192);
+    try_settings("no settings", TWO, 0, 0, 0, 0, 0, 0, 0, 2, 0, 2, 0, 0);
+    try_settings("an empty table", "", 0, 1, WEIGHT, 0, 1, 650, 0, 2, 0, 0, -77, -77);
+    try_settings("N3", N3, 0, 1, WEIGHT, 0, 1, -32768, 0, 2, 5, 0, -77, -77);
+    try_settings("more tags than values", LISTED, 0, 2, WEIGHT, WEIGHT, 1, 650, 650, 2, 6, 0, -77, -77);
+    try_settings("more values than tags, and a list too short", LISTED, 0, 1, WEIGHT, 0, 2, 650, 650, 0, 6, 0, -77, -77);
+    try_settings("a list that is too short", TWO, 0, 1, WEIGHT, 0, 1, 650, 0, 1, 7, 0, -77, -77);
+    try_settings("a list that is too short, before N3", N3, 0, 1, WEIGHT, 0, 1, -32768, 0, 0, 7, 0, -77, -77);
+
+    /* of 33 axes, all at one place, 32 count */
+    for (i = 0; i < 34; i++)
+        out[i] = -77;
+    number = suolluvik_normalized_coords(fvar.at, fvar.len, fvar.at, 0, 0, &tag, 1, &value, 1, out, 34, &count);
+    same = number == 0 && count == 32 && out[32] == -77 && out[33] == -77;
+    for (i = 0; i < 32; i++)
+        same = same && out[i] == 8192;
+    check(same, "normalized_coords", "33 axes");
+    count = 77;
+    out[0] = -77;
+    number = suolluvik_normalized_coords(fvar.at, fvar.len, fvar.at, 0, 0, &tag, 1, &value, 1, out, 31, &count);
+    check(number == 7 && count == 0 && out[0] == -77, "normalized_coords", "33 axes, a list of 31");
+
+    try_instance_coords("650", NAMED, 0, 1, 2, 0, 1, 8192, -77);
+    try_instance_coords("700", NAMED, 0, 0, 1, 0, 1, 9831, -77);
+    try_instance_coords("650, with A1's map", NAMED, 4, 1, 2, 0, 1, 4096, -77);
+    try_instance_coords("two axes", TWO, 0, 0, 2, 0, 2, 8192, -8192);
+    try_instance_coords("N2", N2, 0, 0, 2, 0, 1, 0, -77);
+    try_instance_coords("cut", FVAR("0001", "0014", "0001", "0008") WGHT "0102 0000 028a00", 0, 0, 2, 2, 0, -77, -77);
+    try_instance_coords("past the count", NAMED, 0, 2, 2, 3, 0, -77, -77);
+    try_instance_coords("of size 1", UNSIZED("0001"), 0, 0, 2, 5, 0, -77, -77);
+    try_instance_coords("N3", N3, 0, 0, 2, 5, 0, -77, -77);
+    try_instance_coords("a list that is too short", TWO, 0, 0, 1, 7, 0, -77, -77);
+    try_instance_coords("a list that is too short, before N3", N3, 0, 0, 0, 7, 0, -77, -77);
+}
+
+/* Measures. */
+
+#define COUNT SUOLLUVIK_MEASURES
+static const float unvaried[COUNT] = {800, 200, 90, 500, 400, 0, 700, 500, 550, 1200, -100, 300, 50};
+/* the rows of MEASURES at 8192, each a half of its entry: + 50, - 30, + 5, + 100, - 50, + 7, + 20, + 15, - 4, + 6, + 3 */
+static const float varied[COUNT] = {850, 170, 95, 600, 350, 7, 720, 515, 550, 1200, -104, 306, 53};
+static const float no_vertical[COUNT] = {850, 170, 95, 500, 400, 0, 720, 515, 550, 1200, -104, 306, 53};
+
+enum change { MATERIALIZE, MATERIALIZE_VERTICAL, SCALE, LINEAR_SCALE };
+
+/* What is done to a list of len of 14 elements, the last of which is no measure. */
+static void try_measures(const char *name, enum change change, const char *hex, uint32_t mvar, int16_t coord,
+                         size_t coords_len, uint16_t units_per_em, float scale, size_t len, uint8_t number,
+                         const float *expected, float factor)
+{
+    static const char *const names[] = {"materialize_metrics", "materialize_metrics", "scale_metrics",
+                                        "linear_scale_metrics"};
+    struct bytes font = bytes(hex);
+    float measures[COUNT + 1];
+    uint8_t found;
+    int i, same;
+    for (i = 0; i < COUNT; i++)
+        measures[i] = unvaried[i];
+    measures[COUNT] = -77;
+    if (change == SCALE)
+        found = suolluvik_scale_metrics(units_per_em, scale, measures, len);
+    else if (change == LINEAR_SCALE)
+        found = suolluvik_linear_scale_metrics(scale, measures, len);
+    else
+        found = suolluvik_materialize_metrics(font.at, font.len, mvar, &coord, coords_len,
+                                              change == MATERIALIZE_VERTICAL, measures, len);
+    same = found == number && measures[COUNT] == -77;
+    for (i = 0; i < COUNT; i++)
+        same = same && measures[i] == expected[i] * factor;
+    check(same, names[change], name);
+}
+
+static void try_all_measures(void)
+{
+    const enum change plain = MATERIALIZE, vertical = MATERIALIZE_VERTICAL;
+    try_measures("13, vertical", vertical, MEASURES, 4, 8192, 1, 0, 0, 13, 0, varied, 1);
+    try_measures("14, vertical", vertical, MEASURES, 4, 8192, 1, 0, 0, 14, 0, varied, 1);
+    try_measures("13, not vertical", plain, MEASURES, 4, 8192, 1, 0, 0, 13, 0, no_vertical, 1);
+    try_measures("12", vertical, MEASURES, 4, 8192, 1, 0, 0, 12, 7, unvaried, 1);
+    try_measures("an empty list", vertical, MEASURES, 4, 8192, 1, 0, 0, 0, 7, unvaried, 1);
+    try_measures("at the default", vertical, MEASURES, 4, 0, 1, 0, 0, 13, 0, unvaried, 1);
+    try_measures("no coordinates", vertical, MEASURES, 4, 8192, 0, 0, 0, 13, 0, unvaried, 1);
+    try_measures("no MVAR", vertical, MEASURES, 0, 8192, 1, 0, 0, 13, 0, unvaried, 1);
+    try_measures("an MVAR that does not open", vertical, MEASURES, 255, 8192, 1, 0, 0, 13, 0, unvaried, 1);
+    try_measures("refused deltas", vertical, MVAR_HEADER("000b", "0064") RECORDS ROWS("0002"), 4, 8192, 1, 0, 0, 13, 0,
+                 unvaried, 1);
+    try_measures("16 over 2048, 13", SCALE, "", 0, 0, 0, 2048, 16, 13, 0, unvaried, 0.0078125f);
+    try_measures("16 over 2000, 14", SCALE, "", 0, 0, 0, 2000, 16, 14, 0, unvaried, 16.0f / 2000.0f);
+    try_measures("no units per em", SCALE, "", 0, 0, 0, 0, 16, 13, 0, unvaried, 1);
+    try_measures("12", SCALE, "", 0, 0, 0, 2048, 16, 12, 7, unvaried, 1);
+    try_measures("by -3, 13", LINEAR_SCALE, "", 0, 0, 0, 0, -3, 13, 0, unvaried, -3);
+    try_measures("by 0.1, 14", LINEAR_SCALE, "", 0, 0, 0, 0, 0.1f, 14, 0, unvaried, 0.1f);
+    try_measures("12", LINEAR_SCALE, "", 0, 0, 0, 0, 2, 12, 7, unvaried, 1);
+}
+
+int main(void)
+{
+    try_deltas();
+    try_counts();
+    try_axes();
+    try_instances();
+    try_coords();
+    try_all_measures();
+    printf("%d passed, %d failed\n", passed, failed);
+    return failed != 0;
+}

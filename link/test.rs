@@ -1,0 +1,760 @@
+//! Calls every function of `suolluvik.rs`, with an answer that document 01 gives or that follows from its rules, and with
+//! each refusal that the function can give. Lists hold something else before each call. A failed check is a line; the last
+//! line is 'N passed, M failed', and the status 1 where one failed. `tests/link` builds and runs this; what the library
+//! writes on a refusal behind the wrapper, `test.c` looks at.
+
+mod suolluvik;
+
+use std::fmt::Debug;
+use std::process::ExitCode;
+use suolluvik::{measure, Axis, Instance, Refusal, Refusal::*};
+
+#[derive(Default)]
+struct Test {
+    passed: u32,
+    failed: u32,
+}
+
+impl Test {
+    fn same<T: PartialEq + Debug>(&mut self, name: &str, found: T, expected: T) {
+        if found == expected {
+            self.passed += 1;
+        } else {
+            self.failed += 1;
+            println!("failed, in Rust: {name}: {found:?} and not {expected:?}");
+        }
+    }
+}
+
+/// The bytes of hexadecimal digits.
+fn bytes(hex: &str) -> Vec<u8> {
+    let digits: Vec<u8> = hex.bytes().filter(|digit| *digit != b' ').collect();
+    let pair = |pair: &[u8]| u8::from_str_radix(std::str::from_utf8(pair).unwrap(), 16).unwrap();
+    digits.chunks(2).map(pair).collect()
+}
+
+/// The bytes of the first with those from `at` on replaced by the second.
+fn changed(hex: &str, at: usize, by: &str) -> Vec<u8> {
+    let (mut found, by) = (bytes(hex), bytes(by));
+    found[at..at + by.len()].copy_from_slice(&by);
+    found
+}
+
+const fn tag(letters: &[u8; 4]) -> u32 {
+    u32::from_be_bytes(*letters)
+}
+
+// Document 01's stores behind an HVAR at 4, H1 with one map for advances and bearings.
+const S1: &str = "00000000 00010000 00000010 00000000 00000000 0001 0000000c 0001 00000016 \
+    0001 0001 0000 4000 4000 0001 0000 0001 0000 64";
+const S2: &str = "00000000 00010000 00000010 00000000 00000000 0001 0000000c 0001 00000016 \
+    0001 0001 0000 3000 4000 0001 0000 0001 0000 03";
+const S3: &str = "00000000 00010000 00000010 00000000 00000000 0001 0000000c 0001 00000016 \
+    0001 0001 c000 2000 4000 0001 0000 0001 0000 03";
+const S4: &str = "00000000 00010000 00000010 00000000 00000000 0001 0000000c 0001 0000001c \
+    0001 0002 c00020004000 c00020004000 0001 0002 0002 0000 0001 7fff 7fff";
+const S5: &str = "00000000 00010000 00000010 00000000 00000000 0001 0000000c 0001 00000010 \
+    0001 0000 0001 0000 0000";
+const H1: &str = "00000000 00010000 00000018 00000010 00000010 0007 0003 000102 00 \
+    0001 0000000c 0001 00000010 0000 0001 0003 0000 0001 0000 0a0b0c";
+// An MVAR at 4 with the eleven measures, sorted; inner comes before outer. Its rows are words; S1's triple.
+const MVAR: &str = "00000000 0001 0000 0000 0008 000b 0064 \
+    63706874 0000 0000 68617363 0001 0000 68647363 0002 0000 686c6770 0003 0000 7374726f 0004 0000 756e646f 0005 0000 \
+    756e6473 0006 0000 76617363 0007 0000 76647363 0008 0000 766c6770 0009 0000 78686774 000a 0000 \
+    0001 0000000c 0001 00000016 0001 0001 0000 4000 4000 000b 0001 0001 0000 \
+    0028 0064 ffc4 000a 000c fff8 0006 00c8 ff9c 000e 001e";
+
+/// Both forms of a delta of a glyph's advance.
+fn advance(
+    t: &mut Test,
+    name: &str,
+    font: &[u8],
+    xvar: u32,
+    glyph: u16,
+    coords: &[i16],
+    expected: Result<i32, Refusal>,
+) {
+    let name = format!("advance_delta: {name}");
+    t.same(
+        &name,
+        suolluvik::advance_delta_fixed(font, xvar, glyph, coords),
+        expected,
+    );
+    t.same(
+        &name,
+        suolluvik::advance_delta(font, xvar, glyph, coords),
+        expected.map(real),
+    );
+}
+
+fn bearing(
+    t: &mut Test,
+    name: &str,
+    font: &[u8],
+    xvar: u32,
+    glyph: u16,
+    coords: &[i16],
+    expected: Result<i32, Refusal>,
+) {
+    let name = format!("sb_delta: {name}");
+    t.same(
+        &name,
+        suolluvik::sb_delta_fixed(font, xvar, glyph, coords),
+        expected,
+    );
+    t.same(
+        &name,
+        suolluvik::sb_delta(font, xvar, glyph, coords),
+        expected.map(real),
+    );
+}
+
+fn of_measure(
+    t: &mut Test,
+    name: &str,
+    font: &[u8],
+    mvar: u32,
+    tag: u32,
+    coords: &[i16],
+    expected: Result<i32, Refusal>,
+) {
+    let name = format!("mvar_delta: {name}");
+    t.same(
+        &name,
+        suolluvik::mvar_delta_fixed(font, mvar, tag, coords),
+        expected,
+    );
+    t.same(
+        &name,
+        suolluvik::mvar_delta(font, mvar, tag, coords),
+        expected.map(real),
+    );
+}
+
+/// Each number that is asked for here is a float.
+fn real(fixed: i32) -> f32 {
+    fixed as f32 / 65536.
+}
+
+fn deltas(t: &mut Test) {
+    let (s1, h1, mvar) = (&bytes(S1)[..], &bytes(H1)[..], &bytes(MVAR)[..]);
+    advance(t, "S1 at 8192", s1, 4, 0, &[8192], Ok(3276800));
+    advance(t, "S1 at 16384", s1, 4, 0, &[16384], Ok(6553600));
+    advance(t, "S1 at 0", s1, 4, 0, &[0], Ok(0));
+    advance(t, "S1 at -1", s1, 4, 0, &[-1], Ok(0));
+    advance(t, "S2", &bytes(S2), 4, 0, &[4096], Ok(65535));
+    advance(t, "S3, no coordinates", &bytes(S3), 4, 0, &[], Ok(196608));
+    advance(t, "S4", &bytes(S4), 4, 0, &[], Ok(-131072));
+    advance(t, "S5", &bytes(S5), 4, 0, &[], Ok(0));
+    advance(t, "no HVAR", s1, 0, 0, &[8192], Err(Absent));
+    advance(
+        t,
+        "no store",
+        &changed(S1, 8, "00000000"),
+        4,
+        0,
+        &[8192],
+        Err(Absent),
+    );
+    advance(t, "an empty font", &[], 4, 0, &[8192], Err(Short));
+    advance(
+        t,
+        "S1 without its entry",
+        &s1[..50],
+        4,
+        0,
+        &[8192],
+        Err(Short),
+    );
+    advance(
+        t,
+        "a region past the count",
+        &changed(S1, 48, "0001"),
+        4,
+        0,
+        &[],
+        Err(Index),
+    );
+    advance(
+        t,
+        "no subtable",
+        &changed(S1, 26, "0000"),
+        4,
+        0,
+        &[],
+        Err(Index),
+    );
+    advance(
+        t,
+        "more words than regions",
+        &changed(S1, 44, "0002"),
+        4,
+        0,
+        &[],
+        Err(Arithmetic),
+    );
+    advance(
+        t,
+        "a store at 2^32",
+        &changed(S1, 8, "fffffffc"),
+        4,
+        0,
+        &[],
+        Err(Arithmetic),
+    );
+    advance(
+        t,
+        "a map without entries",
+        &changed(H1, 22, "0000"),
+        4,
+        0,
+        &[],
+        Err(Arithmetic),
+    );
+    for (glyph, delta) in [
+        (0, 655360),
+        (1, 720896),
+        (2, 786432),
+        (3, 786432),
+        (65535, 786432),
+    ] {
+        advance(t, "H1", h1, 4, glyph, &[], Ok(delta));
+        bearing(t, "H1", h1, 4, glyph, &[], Ok(delta));
+    }
+    bearing(t, "no HVAR", h1, 0, 0, &[], Err(Absent));
+    bearing(t, "no map", s1, 4, 0, &[], Err(Absent));
+    bearing(
+        t,
+        "a font that ends in the HVAR",
+        &h1[..19],
+        4,
+        0,
+        &[],
+        Err(Short),
+    );
+    bearing(
+        t,
+        "no subtable",
+        &changed(H1, 34, "0000"),
+        4,
+        0,
+        &[],
+        Err(Index),
+    );
+    bearing(
+        t,
+        "a map without entries",
+        &changed(H1, 22, "0000"),
+        4,
+        0,
+        &[],
+        Err(Arithmetic),
+    );
+    let hasc = tag(b"hasc");
+    of_measure(t, "hasc halfway", mvar, 4, hasc, &[8192], Ok(3276800));
+    of_measure(t, "xhgt", mvar, 4, tag(b"xhgt"), &[16384], Ok(1966080));
+    of_measure(t, "an MVAR at 0", &mvar[4..], 0, hasc, &[8192], Ok(3276800));
+    of_measure(
+        t,
+        "no records",
+        &changed(MVAR, 12, "0000"),
+        4,
+        hasc,
+        &[8192],
+        Err(Absent),
+    );
+    of_measure(
+        t,
+        "no store",
+        &changed(MVAR, 14, "0000"),
+        4,
+        hasc,
+        &[8192],
+        Err(Absent),
+    );
+    of_measure(
+        t,
+        "a font that ends in the header",
+        &mvar[..15],
+        4,
+        hasc,
+        &[8192],
+        Err(Short),
+    );
+    of_measure(
+        t,
+        "a subtable past the count",
+        &changed(MVAR, 30, "0001"),
+        4,
+        hasc,
+        &[],
+        Err(Index),
+    );
+    of_measure(t, "another tag", mvar, 4, tag(b"strs"), &[8192], Err(Tag));
+    of_measure(
+        t,
+        "more words than regions",
+        &changed(MVAR, 128, "0002"),
+        4,
+        hasc,
+        &[],
+        Err(Arithmetic),
+    );
+}
+
+// Document 01's listing; two axes and an instance; instances with a PostScript name id; the axes of N2 and N3; A1's map at 4.
+const LISTED: &str =
+    "00010000 0010 0002 0001 0014 0000 0008 77676874 00640000 01900000 03840000 0000 0100";
+const TWO: &str =
+    "00010000 0010 0002 0002 0014 0001 000c 77676874 00640000 01900000 03840000 0000 0100 \
+    736c6e74 fff60000 00000000 00000000 0001 0101 0102 0000 028a0000 fffb0000";
+const NAMED: &str =
+    "00010000 0010 0002 0001 0014 0002 000a 77676874 00640000 01900000 03840000 0000 0100 \
+    0101 0000 02bc0000 0111 0102 0000 028a0000 0112";
+const N2: &str =
+    "00010000 0010 0002 0001 0014 0001 0008 77676874 00000000 00000000 00000000 0000 0100 \
+    0102 0000 00050000";
+const N3: &str =
+    "00010000 0010 0002 0001 0014 0001 0008 77676874 80000000 00000000 00000000 0000 0100 \
+    0102 0000 80000000";
+const AVAR: &str = "00000000 00010000 0000 0001 0004 c000c000 00000000 20001000 40004000";
+const WGHT: u32 = tag(b"wght");
+const SLNT: u32 = tag(b"slnt");
+
+fn axes(t: &mut Test) {
+    let (listed, two, named) = (&bytes(LISTED)[..], &bytes(TWO)[..], &bytes(NAMED)[..]);
+    t.same("axis_count", suolluvik::axis_count(two), 2);
+    t.same("axis_count: cut", suolluvik::axis_count(&two[..9]), 0);
+    t.same("instance_count", suolluvik::instance_count(named), 2);
+    t.same(
+        "instance_count: cut",
+        suolluvik::instance_count(&named[..13]),
+        0,
+    );
+    let weight = Axis {
+        index: 0,
+        tag: WGHT,
+        min: 6553600,
+        default: 26214400,
+        max: 58982400,
+        flags: 0,
+        name_id: 256,
+    };
+    let slant = Axis {
+        index: 1,
+        tag: SLNT,
+        min: -655360,
+        default: 0,
+        max: 0,
+        flags: 1,
+        name_id: 257,
+    };
+    t.same(
+        "axis: document 01's listing",
+        suolluvik::axis(listed, 0),
+        Ok(weight),
+    );
+    t.same("axis: the second one", suolluvik::axis(two, 1), Ok(slant));
+    t.same("axis: cut", suolluvik::axis(&listed[..35], 0), Err(Short));
+    t.same(
+        "axis: past the count",
+        suolluvik::axis(listed, 1),
+        Err(Index),
+    );
+    t.same(
+        "axis_by_tag: document 01's listing",
+        suolluvik::axis_by_tag(listed, WGHT),
+        Ok(weight),
+    );
+    t.same(
+        "axis_by_tag: the second one",
+        suolluvik::axis_by_tag(two, SLNT),
+        Ok(slant),
+    );
+    t.same(
+        "axis_by_tag: another tag",
+        suolluvik::axis_by_tag(listed, SLNT),
+        Err(Tag),
+    );
+    t.same(
+        "axis_by_tag: cut",
+        suolluvik::axis_by_tag(&listed[..35], WGHT),
+        Err(Tag),
+    );
+    t.same(
+        "Axis: hidden",
+        [weight.is_hidden(), slant.is_hidden()],
+        [false, true],
+    );
+    let values = [
+        weight.min_value(),
+        weight.default_value(),
+        weight.max_value(),
+    ];
+    t.same("Axis: values", values, [100., 400., 900.]);
+    let floats = [6553600, -1, i32::MAX].map(suolluvik::fixed_to_f32);
+    t.same("fixed_to_f32", floats, [100., -1. / 65536., 32768.]);
+
+    // the id is read at 8 from the table's start, where the axis count stands
+    let first = Instance {
+        index: 0,
+        name_id: 0x101,
+        postscript_name_id: Some(1),
+    };
+    let second = Instance {
+        index: 0,
+        name_id: 0x102,
+        postscript_name_id: None,
+    };
+    t.same(
+        "instance: with a PostScript name",
+        suolluvik::instance(named, 0),
+        Ok(first),
+    );
+    t.same(
+        "instance: without one",
+        suolluvik::instance(two, 0),
+        Ok(second),
+    );
+    let cut = &named[..named.len() - 3];
+    let unsized_one = &changed(NAMED, 14, "0001")[..];
+    t.same("instance: cut", suolluvik::instance(cut, 1), Err(Short));
+    t.same(
+        "instance: past the count",
+        suolluvik::instance(named, 2),
+        Err(Index),
+    );
+    t.same(
+        "instance: of size 1",
+        suolluvik::instance(unsized_one, 0),
+        Err(Arithmetic),
+    );
+
+    let mut floats =
+        |name: &str, fvar: &[u8], index, room, expected: Result<u16, Refusal>, list: [f32; 3]| {
+            let mut out = [-77.; 3];
+            let found = suolluvik::instance_floats(fvar, index, &mut out[..room]);
+            t.same(
+                &format!("instance_floats: {name}"),
+                (found, out),
+                (expected, list),
+            );
+        };
+    floats("one axis", named, 0, 3, Ok(1), [700., -77., -77.]);
+    floats("two axes", two, 0, 2, Ok(2), [650., -5., -77.]);
+    floats("cut", cut, 1, 3, Err(Short), [-77.; 3]);
+    floats("past the count", named, 2, 3, Err(Index), [-77.; 3]);
+    floats("of size 1", unsized_one, 0, 3, Err(Arithmetic), [-77.; 3]);
+    floats("a list that is too short", two, 0, 1, Err(Room), [-77.; 3]);
+}
+
+fn coords(t: &mut Test) {
+    let (listed, two, named, avar) = (
+        &bytes(LISTED)[..],
+        &bytes(TWO)[..],
+        &bytes(NAMED)[..],
+        &bytes(AVAR)[..],
+    );
+    let (n2, n3) = (&bytes(N2)[..], &bytes(N3)[..]);
+    let mut settings = |name: &str,
+                        fvar: &[u8],
+                        avar_offset,
+                        tags: &[u32],
+                        values: &[f32],
+                        room,
+                        expected,
+                        list: [i16; 3]| {
+        let mut out = [-77; 3];
+        let found =
+            suolluvik::normalized_coords(fvar, avar, avar_offset, tags, values, &mut out[..room]);
+        t.same(
+            &format!("normalized_coords: {name}"),
+            (found, out),
+            (expected, list),
+        );
+    };
+    for (value, coord) in [(650., 8192), (300., -5461), (50., -16384), (400., 0)] {
+        settings(
+            "N1",
+            listed,
+            0,
+            &[WGHT],
+            &[value],
+            3,
+            Ok(1),
+            [coord, -77, -77],
+        );
+    }
+    settings("N2", n2, 0, &[WGHT], &[5.], 1, Ok(1), [0, -77, -77]);
+    settings(
+        "A1",
+        listed,
+        4,
+        &[WGHT],
+        &[525.],
+        3,
+        Ok(1),
+        [2048, -77, -77],
+    );
+    settings(
+        "the last one wins",
+        listed,
+        0,
+        &[WGHT; 2],
+        &[300., 650.],
+        3,
+        Ok(1),
+        [8192, -77, -77],
+    );
+    settings(
+        "two axes",
+        two,
+        0,
+        &[SLNT, WGHT],
+        &[-5., 650.],
+        2,
+        Ok(2),
+        [8192, -8192, -77],
+    );
+    settings(
+        "an axis without a setting",
+        two,
+        0,
+        &[SLNT],
+        &[-5.],
+        3,
+        Ok(2),
+        [0, -8192, -77],
+    );
+    settings("no settings", two, 0, &[], &[], 3, Ok(2), [0, 0, -77]);
+    settings(
+        "N3",
+        n3,
+        0,
+        &[WGHT],
+        &[-32768.],
+        3,
+        Err(Arithmetic),
+        [-77; 3],
+    );
+    settings(
+        "more tags than values",
+        listed,
+        0,
+        &[WGHT; 2],
+        &[650.],
+        3,
+        Err(Lengths),
+        [-77; 3],
+    );
+    settings(
+        "more values than tags",
+        listed,
+        0,
+        &[WGHT],
+        &[650.; 2],
+        0,
+        Err(Lengths),
+        [-77; 3],
+    );
+    settings(
+        "a list that is too short",
+        two,
+        0,
+        &[WGHT],
+        &[650.],
+        1,
+        Err(Room),
+        [-77; 3],
+    );
+    // of 33 axes, all at one place, 32 count
+    let many = changed(LISTED, 8, "0021 0000");
+    let mut out = [-77; 34];
+    let found = suolluvik::normalized_coords(&many, &[], 0, &[WGHT], &[650.], &mut out);
+    let mut expected = [8192; 34];
+    expected[32..].fill(-77);
+    t.same(
+        "normalized_coords: 33 axes",
+        (found, out),
+        (Ok(32), expected),
+    );
+
+    let mut instance =
+        |name: &str, fvar: &[u8], avar_offset, index, room, expected, list: [i16; 3]| {
+            let mut out = [-77; 3];
+            let found =
+                suolluvik::instance_coords(fvar, avar, avar_offset, index, &mut out[..room]);
+            t.same(
+                &format!("instance_coords: {name}"),
+                (found, out),
+                (expected, list),
+            );
+        };
+    instance("650", named, 0, 1, 3, Ok(1), [8192, -77, -77]);
+    instance(
+        "650, with A1's map",
+        named,
+        4,
+        1,
+        1,
+        Ok(1),
+        [4096, -77, -77],
+    );
+    instance("two axes", two, 0, 0, 3, Ok(2), [8192, -8192, -77]);
+    instance("N2", n2, 0, 0, 3, Ok(1), [0, -77, -77]);
+    instance(
+        "cut",
+        &named[..named.len() - 3],
+        0,
+        1,
+        3,
+        Err(Short),
+        [-77; 3],
+    );
+    instance("past the count", named, 0, 2, 3, Err(Index), [-77; 3]);
+    instance(
+        "of size 1",
+        &changed(NAMED, 14, "0001"),
+        0,
+        0,
+        3,
+        Err(Arithmetic),
+        [-77; 3],
+    );
+    instance("N3", n3, 0, 0, 3, Err(Arithmetic), [-77; 3]);
+    instance(
+        "a list that is too short",
+        two,
+        0,
+        0,
+        1,
+        Err(Room),
+        [-77; 3],
+    );
+}
+
+const UNVARIED: [f32; 14] = [
+    800., 200., 90., 500., 400., 0., 700., 500., 550., 1200., -100., 300., 50., -77.,
+];
+
+fn measures(t: &mut Test) {
+    let font = &bytes(MVAR)[..];
+    // the rows at 8192, each a half of its entry
+    let mut varied = UNVARIED;
+    varied[measure::ASCENT] = 800. + 50.;
+    varied[measure::DESCENT] = 200. - 30.;
+    varied[measure::LEADING] = 90. + 5.;
+    varied[measure::CAP_HEIGHT] = 700. + 20.;
+    varied[measure::X_HEIGHT] = 500. + 15.;
+    varied[measure::AVERAGE_WIDTH] = 550.;
+    varied[measure::MAX_WIDTH] = 1200.;
+    varied[measure::UNDERLINE_OFFSET] = -100. - 4.;
+    varied[measure::STRIKEOUT_OFFSET] = 300. + 6.;
+    varied[measure::STROKE_SIZE] = 50. + 3.;
+    let mut vertical = varied;
+    vertical[measure::VERTICAL_ASCENT] = 500. + 100.;
+    vertical[measure::VERTICAL_DESCENT] = 400. - 50.;
+    vertical[measure::VERTICAL_LEADING] = 0. + 7.;
+
+    let mut changes = |name: &str,
+                       len,
+                       change: &dyn Fn(&mut [f32]) -> Result<(), Refusal>,
+                       expected: [f32; 14]| {
+        let mut measures = UNVARIED;
+        let found = change(&mut measures[..len]);
+        let ok = if len < measure::COUNT {
+            Err(Room)
+        } else {
+            Ok(())
+        };
+        t.same(name, (found, measures), (ok, expected));
+    };
+    let materialize = |mvar, coords: &'static [i16], vertical| {
+        move |measures: &mut [f32]| {
+            suolluvik::materialize_metrics(font, mvar, coords, vertical, measures)
+        }
+    };
+    changes(
+        "materialize_metrics: 13",
+        13,
+        &materialize(4, &[8192], false),
+        varied,
+    );
+    changes(
+        "materialize_metrics: 14, vertical",
+        14,
+        &materialize(4, &[8192], true),
+        vertical,
+    );
+    changes(
+        "materialize_metrics: 12",
+        12,
+        &materialize(4, &[8192], true),
+        UNVARIED,
+    );
+    changes(
+        "materialize_metrics: no coordinates",
+        13,
+        &materialize(4, &[], true),
+        UNVARIED,
+    );
+    changes(
+        "materialize_metrics: no MVAR",
+        13,
+        &materialize(0, &[8192], true),
+        UNVARIED,
+    );
+    changes(
+        "materialize_metrics: none that opens",
+        13,
+        &materialize(255, &[8192], true),
+        UNVARIED,
+    );
+
+    let scaled = |factor: f32| {
+        let mut measures = UNVARIED;
+        measures[..measure::COUNT]
+            .iter_mut()
+            .for_each(|m| *m *= factor);
+        measures
+    };
+    let scale = |units_per_em, ppem| {
+        move |measures: &mut [f32]| suolluvik::scale_metrics(units_per_em, ppem, measures)
+    };
+    changes(
+        "scale_metrics: 13",
+        13,
+        &scale(2048, 16.),
+        scaled(0.0078125),
+    );
+    changes(
+        "scale_metrics: 14",
+        14,
+        &scale(2000, 16.),
+        scaled(16. / 2000.),
+    );
+    changes(
+        "scale_metrics: no units per em",
+        13,
+        &scale(0, 16.),
+        UNVARIED,
+    );
+    changes("scale_metrics: 12", 12, &scale(2048, 16.), UNVARIED);
+    let linear =
+        |scale| move |measures: &mut [f32]| suolluvik::linear_scale_metrics(scale, measures);
+    changes("linear_scale_metrics: 13", 13, &linear(-3.), scaled(-3.));
+    changes("linear_scale_metrics: 14", 14, &linear(0.1), scaled(0.1));
+    changes("linear_scale_metrics: 12", 12, &linear(2.), UNVARIED);
+}
+
+fn main() -> ExitCode {
+    let mut t = Test::default();
+    let numbers = [Absent, Short, Index, Tag, Arithmetic, Lengths, Room].map(Refusal::number);
+    t.same("the refusals' numbers", numbers, [1, 2, 3, 4, 5, 6, 7]);
+    deltas(&mut t);
+    axes(&mut t);
+    coords(&mut t);
+    measures(&mut t);
+    println!("{} passed, {} failed", t.passed, t.failed);
+    ExitCode::from((t.failed != 0) as u8)
+}

@@ -1,0 +1,309 @@
+//! Fonts of a folder, asked of swash and of the library as it is linked. README.md beside this folder
+//! says how to use it.
+
+#[path = "shelf/ask.rs"]
+mod ask;
+#[path = "shelf/coords.rs"]
+mod coords;
+#[path = "shelf/damage.rs"]
+mod damage;
+#[path = "shelf/font.rs"]
+mod font;
+#[path = "shelf/judge.rs"]
+mod judge;
+#[allow(dead_code)]
+mod random;
+// the build puts link/suolluvik.rs beside this file
+#[allow(dead_code)]
+mod suolluvik;
+mod swash;
+#[allow(dead_code)]
+mod text;
+
+#[allow(dead_code)]
+mod numbers {
+    pub mod rules;
+}
+#[allow(dead_code)]
+mod axes {
+    pub mod rules;
+}
+#[allow(dead_code)]
+mod store {
+    pub mod rules;
+}
+
+use ask::Asker;
+use damage::Fields;
+use font::Font;
+use judge::{Judge, Tally, FUNCTIONS};
+use random::Random;
+use std::collections::BTreeMap;
+use std::fmt::Display;
+use std::fs;
+use std::io::{self, Read};
+use std::panic::catch_unwind;
+use std::path::{Path, PathBuf};
+use std::process::ExitCode;
+
+const USAGE: &str = "\
+shelf compare FOLDER                 compare the fonts below FOLDER
+shelf damage FOLDER ROUNDS SEED      the same ROUNDS times, each font damaged by random from SEED
+shelf coords FOLDER                  write coordinates by the library, with avar, of the fonts below FOLDER
+";
+
+/// A font that is larger is left out.
+const LARGEST: u64 = 32 << 20;
+
+/// Of a font that is not damaged the random coordinates are always the same.
+const SEED: u64 = 20261115;
+
+/// The files below a folder that are fonts, sorted, and those that are too large.
+struct Files {
+    fonts: Vec<PathBuf>,
+    large: Vec<PathBuf>,
+}
+
+impl Files {
+    fn below(folder: &Path) -> io::Result<Files> {
+        let mut files = Files {
+            fonts: vec![],
+            large: vec![],
+        };
+        files.add(folder)?;
+        files.fonts.sort();
+        files.large.sort();
+        Ok(files)
+    }
+
+    fn add(&mut self, folder: &Path) -> io::Result<()> {
+        for entry in fs::read_dir(folder)? {
+            let entry = entry?;
+            let path = entry.path();
+            // a link to a folder may lead back
+            if entry.file_type()?.is_dir() {
+                self.add(&path)?;
+            } else if path.is_file() {
+                let mut start = vec![];
+                fs::File::open(&path)?.take(4).read_to_end(&mut start)?;
+                if font::is_font(&start) {
+                    let large = fs::metadata(&path)?.len() > LARGEST;
+                    let list = if large {
+                        &mut self.large
+                    } else {
+                        &mut self.fonts
+                    };
+                    list.push(path);
+                }
+            }
+        }
+        Ok(())
+    }
+}
+
+/// What is counted of the fonts of one folder.
+#[derive(Default)]
+struct Row {
+    fonts: u64,
+    without_fvar: u64,
+    tally: Tally,
+}
+
+impl Row {
+    fn columns(&self) -> [u64; 8] {
+        let [cases, equal, none, stops, silent, differences] = self.tally.columns();
+        [
+            self.fonts,
+            self.without_fvar,
+            cases,
+            equal,
+            none,
+            stops,
+            silent,
+            differences,
+        ]
+    }
+}
+
+fn print_row<const N: usize>(width: usize, name: &str, cells: [impl Display; N]) {
+    let mut row = format!("{name:width$}");
+    for cell in cells {
+        row += &format!("{cell:>13}");
+    }
+    println!("{row}");
+}
+
+struct Shelf {
+    judge: Judge,
+    rows: BTreeMap<String, Row>,
+    functions: [Tally; FUNCTIONS.len()],
+    without_fvar: Vec<String>,
+}
+
+/// A seed for one face and round, whatever other fonts there are.
+fn seed_of(seed: u64, name: &str, face: usize, round: u64) -> u64 {
+    let start = Random::new(seed.wrapping_add(round << 20)).bits();
+    let mix = |hash: u64, byte: u8| (hash ^ byte as u64).wrapping_mul(0x100_0000_01b3);
+    name.bytes().fold(start, mix).wrapping_add(face as u64)
+}
+
+impl Shelf {
+    /// Compares each face of a file, as it is or so many times damaged.
+    fn file(&mut self, folder: &Path, path: &Path, damage: Option<(u64, u64)>) -> io::Result<()> {
+        let mut data = fs::read(path)?;
+        let below = path.strip_prefix(folder).unwrap_or(path);
+        let row = below
+            .parent()
+            .map_or(String::new(), |p| p.display().to_string());
+        let name = path
+            .file_name()
+            .map_or(String::new(), |n| n.to_string_lossy().to_string());
+        let directories = font::directories(&data);
+        let faces = directories.len();
+        for (face, directory) in directories.into_iter().enumerate() {
+            let title = match faces {
+                1 => below.display().to_string(),
+                _ => format!("{}, face {face}", below.display()),
+            };
+            let row = self.rows.entry(row.clone()).or_default();
+            row.fonts += 1;
+            if !Font::at(&data, directory).has_fvar {
+                row.without_fvar += 1;
+                self.without_fvar.push(title.clone());
+            }
+            match damage {
+                None => {
+                    self.judge.input = title;
+                    let mut asker = Asker {
+                        font: Font::at(&data, directory),
+                        judge: &mut self.judge,
+                        random: Random::new(seed_of(SEED, &name, face, 0)),
+                        brief: false,
+                    };
+                    asker.all();
+                }
+                Some((rounds, seed)) => {
+                    let fields = Fields::of(&data, directory);
+                    let rounds = if fields.is_empty() { 0 } else { rounds };
+                    for round in 0..rounds {
+                        let mut random = Random::new(seed_of(seed, &name, face, round));
+                        let done = fields.damage(&mut data, &mut random);
+                        self.judge.input =
+                            format!("{title}, seed {seed}, round {round}: {}", done.text());
+                        let mut asker = Asker {
+                            font: Font::at(&data[..done.length], directory),
+                            judge: &mut self.judge,
+                            random,
+                            brief: true,
+                        };
+                        asker.all();
+                        done.undo(&mut data);
+                    }
+                }
+            }
+            for (k, tally) in self.judge.take().iter().enumerate() {
+                row.tally.add(tally);
+                self.functions[k].add(tally);
+            }
+        }
+        Ok(())
+    }
+
+    /// Prints both tables, and answers whether there is no difference.
+    fn table(&self) -> bool {
+        let names = self.rows.keys().map(String::len);
+        let longest = names.chain(FUNCTIONS.map(str::len)).max().unwrap_or(0);
+        let columns = [
+            "fonts",
+            "without fvar",
+            "cases",
+            "equal",
+            "None",
+            "Rust stops",
+            "Rust silent",
+            "differences",
+        ];
+        print_row(longest, "folder", columns);
+        let mut total = Row::default();
+        for (name, row) in &self.rows {
+            let name = if name.is_empty() { "." } else { name };
+            print_row(longest, name, row.columns());
+            total.fonts += row.fonts;
+            total.without_fvar += row.without_fvar;
+            total.tally.add(&row.tally);
+        }
+        print_row(longest, "all", total.columns());
+        println!();
+        let columns: [&str; 6] = columns[2..].try_into().unwrap();
+        print_row(longest, "function", columns);
+        for (name, tally) in FUNCTIONS.iter().zip(&self.functions) {
+            print_row(longest, name, tally.columns());
+        }
+        print_row(longest, "all", total.tally.columns());
+        total.tally.differences == 0
+    }
+}
+
+fn compare(folder: &Path, damage: Option<(u64, u64)>) -> io::Result<bool> {
+    let files = Files::below(folder)?;
+    let mut shelf = Shelf {
+        judge: Judge::new(),
+        rows: BTreeMap::new(),
+        functions: [Tally::default(); FUNCTIONS.len()],
+        without_fvar: vec![],
+    };
+    let count = files.fonts.len();
+    for (k, path) in files.fonts.iter().enumerate() {
+        let below = path.strip_prefix(folder).unwrap_or(path);
+        let place = format!("file {} of {count}, {}", k + 1, below.display());
+        eprintln!("shelf: {place}");
+        shelf.judge.place = place;
+        shelf.file(folder, path, damage)?;
+    }
+    for path in &files.large {
+        println!("left out, larger than 32 MiB: {}", path.display());
+    }
+    for title in &shelf.without_fvar {
+        println!("without fvar: {title}");
+    }
+    if count == 0 {
+        return Err(io::Error::other("no font below it"));
+    }
+    Ok(shelf.table())
+}
+
+fn run(words: &[&str]) -> Option<io::Result<bool>> {
+    match *words {
+        ["compare", folder] => Some(compare(Path::new(folder), None)),
+        ["damage", folder, rounds, seed] => {
+            let damage = (rounds.parse().ok()?, seed.parse().ok()?);
+            Some(compare(Path::new(folder), Some(damage)))
+        }
+        ["coords", folder] => Some(coords::write(Path::new(folder)).map(|()| true)),
+        _ => None,
+    }
+}
+
+fn main() -> ExitCode {
+    // A stop of the Rust is an answer here, not an accident; any other is a fault of this program's.
+    std::panic::set_hook(Box::new(|fault| {
+        if !judge::is_asked() {
+            eprintln!("shelf: a fault of its own: {fault}");
+        }
+    }));
+    let words: Vec<String> = std::env::args().skip(1).collect();
+    let words: Vec<&str> = words.iter().map(String::as_str).collect();
+    match catch_unwind(|| run(&words)) {
+        Ok(Some(Ok(true))) => ExitCode::SUCCESS,
+        Ok(Some(Ok(false))) => ExitCode::FAILURE,
+        Ok(Some(Err(why))) => {
+            eprintln!("shelf: {}: {why}", words[1]);
+            ExitCode::from(2)
+        }
+        Ok(None) => {
+            eprint!("{USAGE}");
+            ExitCode::from(2)
+        }
+        Err(_) => ExitCode::from(2),
+    }
+}

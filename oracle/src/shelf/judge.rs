@@ -1,0 +1,210 @@
+//! What is compared, and what counts as a difference. README.md has the table.
+
+use crate::axes::rules::Answer;
+use std::cell::Cell;
+use std::fmt::Debug;
+use std::panic::{catch_unwind, AssertUnwindSafe};
+use std::time::{Duration, Instant};
+
+/// What the Rust does.
+pub enum Rust<T> {
+    Answer(T),
+    /// answers `None`, with no number
+    None,
+    /// panics, by an overflow check
+    Stops,
+    /// has no counterpart: a list too short, lists of different length
+    Silent,
+}
+
+thread_local! {
+    /// whether the Rust is being asked: there a panic is an answer, elsewhere a fault of the program's
+    static ASKED: Cell<bool> = const { Cell::new(false) };
+}
+
+/// What comes of asking the Rust.
+pub fn asked<T>(question: impl FnOnce() -> Rust<T>) -> Rust<T> {
+    ASKED.set(true);
+    let done = catch_unwind(AssertUnwindSafe(question)).unwrap_or(Rust::Stops);
+    ASKED.set(false);
+    done
+}
+
+pub fn is_asked() -> bool {
+    ASKED.get()
+}
+
+/// The functions of the library that are compared.
+#[derive(Clone, Copy, PartialEq)]
+pub enum Function {
+    Counts,
+    Axis,
+    AxisByTag,
+    Instance,
+    InstanceFloats,
+    NormalizedCoords,
+    InstanceCoords,
+    HvarAdvanceFixed,
+    HvarAdvance,
+    HvarSbFixed,
+    HvarSb,
+    VvarAdvanceFixed,
+    VvarAdvance,
+    VvarSbFixed,
+    VvarSb,
+    MvarFixed,
+    Mvar,
+}
+
+pub const FUNCTIONS: [&str; 17] = [
+    "axis_count, instance_count",
+    "axis",
+    "axis_by_tag",
+    "instance",
+    "instance_floats",
+    "normalized_coords",
+    "instance_coords",
+    "advance_delta_fixed, HVAR",
+    "advance_delta, HVAR",
+    "sb_delta_fixed, HVAR",
+    "sb_delta, HVAR",
+    "advance_delta_fixed, VVAR",
+    "advance_delta, VVAR",
+    "sb_delta_fixed, VVAR",
+    "sb_delta, VVAR",
+    "mvar_delta_fixed",
+    "mvar_delta",
+];
+
+#[derive(Clone, Copy, Default)]
+pub struct Tally {
+    pub cases: u64,
+    /// the Rust's answer
+    pub equal: u64,
+    /// the refusal of the rules where the Rust answers `None`
+    pub none: u64,
+    /// the same where it stops
+    pub stops: u64,
+    /// the same where it has no counterpart
+    pub silent: u64,
+    pub differences: u64,
+}
+
+impl Tally {
+    pub fn add(&mut self, other: &Tally) {
+        self.cases += other.cases;
+        self.equal += other.equal;
+        self.none += other.none;
+        self.stops += other.stops;
+        self.silent += other.silent;
+        self.differences += other.differences;
+    }
+
+    pub fn columns(&self) -> [u64; 6] {
+        [
+            self.cases,
+            self.equal,
+            self.none,
+            self.stops,
+            self.silent,
+            self.differences,
+        ]
+    }
+}
+
+/// Stands for a refusal that changed a lent list, which none may.
+pub const CHANGED: u8 = 255;
+
+/// So many differences of each function are listed in full.
+const LISTED: u64 = 3;
+
+pub struct Judge {
+    /// the font, and what was done to it
+    pub input: String,
+    /// for the progress: which of how many fonts
+    pub place: String,
+    pub tallies: [Tally; FUNCTIONS.len()],
+    listed: [u64; FUNCTIONS.len()],
+    said: Instant,
+}
+
+impl Judge {
+    pub fn new() -> Self {
+        Judge {
+            input: String::new(),
+            place: String::new(),
+            tallies: [Tally::default(); FUNCTIONS.len()],
+            listed: [0; FUNCTIONS.len()],
+            said: Instant::now(),
+        }
+    }
+
+    /// Forgets the counts, and answers them.
+    pub fn take(&mut self) -> [Tally; FUNCTIONS.len()] {
+        std::mem::replace(&mut self.tallies, [Tally::default(); FUNCTIONS.len()])
+    }
+
+    /// Says now and then how far it is.
+    pub fn progress(&mut self) {
+        if self.said.elapsed() >= Duration::from_secs(3) {
+            let cases: u64 = self.tallies.iter().map(|tally| tally.cases).sum();
+            eprintln!("shelf: {}: {cases} cases so far", self.place);
+            self.said = Instant::now();
+        }
+    }
+
+    /// One case. By the rules an answer is the Rust's, `None` is one of 1 to 4, what has no counterpart 6
+    /// or 7; a stop is 5, or 2 where `few_left` says so. Ours is what the rules say.
+    pub fn judge<T: PartialEq + Debug>(
+        &mut self,
+        function: Function,
+        arguments: impl Fn() -> String,
+        rust: Rust<T>,
+        ours: Answer<T>,
+        rule: impl FnOnce() -> Answer<T>,
+        few_left: impl FnOnce() -> bool,
+    ) {
+        let tally = &mut self.tallies[function as usize];
+        tally.cases += 1;
+        let said = rule();
+        let (count, fits) = match &rust {
+            Rust::Answer(answer) => (&mut tally.equal, said.as_ref() == Ok(answer)),
+            Rust::None => (&mut tally.none, matches!(said, Err(1..=4))),
+            Rust::Stops => {
+                let fits = said == Err(5) || (said == Err(2) && few_left());
+                (&mut tally.stops, fits)
+            }
+            Rust::Silent => (&mut tally.silent, matches!(said, Err(6..=7))),
+        };
+        // the rules' answer is the Rust's where that answers
+        let same = ours == said;
+        if fits && same {
+            *count += 1;
+            return;
+        }
+        tally.differences += 1;
+        let listed = &mut self.listed[function as usize];
+        *listed += 1;
+        if *listed > LISTED {
+            return;
+        }
+        let done = match rust {
+            Rust::Answer(answer) => format!("{answer:?}"),
+            Rust::None => "None".to_string(),
+            Rust::Stops => "a stop".to_string(),
+            Rust::Silent => "no counterpart".to_string(),
+        };
+        println!("difference: {}", self.input);
+        println!("    {}, {}", FUNCTIONS[function as usize], arguments());
+        println!("    ours {}", answer_text(&ours));
+        println!("    the Rust {done}; the rules {}", answer_text(&said));
+    }
+}
+
+fn answer_text<T: Debug>(answer: &Answer<T>) -> String {
+    match answer {
+        Ok(value) => format!("{value:?}"),
+        Err(CHANGED) => "a refusal that changed a list".to_string(),
+        Err(number) => format!("refusal {number}"),
+    }
+}

@@ -19,7 +19,7 @@ returns : tie.Need-returns
 returns c = rw (c .before .before .delta .given .1) (refl, toZ-ofZ w32 _ (record { sfits = c .struct-told .given .0 .1 }))
 
 returns-2 : tie.Need-returns-2
-returns-2 c = search needs
+returns-2 c = rw (c .before .before .delta2 .given .1) (c .number .ensures, refl)
 
 pub fixed-value-spec : {M : Type 1} → statement M
 fixed-value-spec = tie.close (tie.spec enum-known-delta enum-known-delta-2 number-requires returns returns-2)

@@ -1,5 +1,6 @@
 -- `suolluvik::measures::suolluvik_materialize_metrics` meets its contract. Assumes nothing.
 use borrow.Author.Needs.{needs}
+use native.Mathlib.Omega.{arith}
 use Rattle.suolluvik.proofs.Changed.{too-short, all-changed}
 use Rattle.suolluvik.proofs.measures.suolluvik_materialize_metrics.Statement.{statement}
 use Rattle.suolluvik.proofs.measures.suolluvik_materialize_metrics.Tie as tie
@@ -8,7 +9,7 @@ number-requires : tie.Need-number-requires
 number-requires c κs = search needs
 
 returns : tie.Need-returns
-returns c = too-short _ _ _ _ _ (c .number .ensures) (c .before .if1 .taken)
+returns c = too-short _ _ _ (c .before .before .before .before .args .measures .now) _ (c .number .ensures) (omega arith)
 
 record-in-requires : tie.Need-record-in-requires
 record-in-requires c κs = search needs

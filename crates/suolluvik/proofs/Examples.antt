@@ -1,0 +1,76 @@
+-- What the exports add to the definitions that they cite, computed: a number beside a value, an instance's numbers, measures in a list. Assumes nothing.
+use Prim.Native.Nat.{ℕ}
+use mathlib.Core.Path.{_≡_, refl}
+use mathlib.Core.Bool.{true, false}
+use mathlib.Core.List.{List, [], _∷_}
+use lib.IntN.{pos}
+use lib.Ieee.{Float}
+use Rattle.readers.specs.Outcome.{refused, number, valueOr}
+use Rattle.readers.specs.Lent.{fill}
+use Rattle.axes.specs.Fvar.{Instance, absent, named}
+use Rattle.store.specs.Metric.{advance, bearing, metricDelta}
+use Rattle.store.proofs.DeltaTable.{computing, s1-font}
+use Rattle.metrics.specs.Scale.{float}
+use Rattle.metrics.specs.Measures.{materializedMetrics, linearScaled, scaledMetrics}
+use Rattle.metrics.proofs.MeasuresTable.{computing-measures, mvarFont, default}
+use Rattle.suolluvik.specs.Instance.{noInstance, isNamed, nameOr}
+use Rattle.suolluvik.specs.Measures.{roomIn, changed}
+
+-- S1: an advance has the number 0 beside its value; a bearing, for which there is no map, is refused by 1, and its value is 0.
+pub number-and-value : (number (metricDelta s1-font 4 advance 0 (pos 8192 ∷ [])) ≡ 0) × (valueOr (pos 0) (metricDelta s1-font 4 advance 0 (pos 8192 ∷ [])) ≡ pos 3276800)
+unfolding computing s1-font
+number-and-value = (refl, refl)
+
+pub number-and-zero : (number (metricDelta s1-font 4 bearing 0 (pos 8192 ∷ [])) ≡ 1) × (valueOr (pos 0) (metricDelta s1-font 4 bearing 0 (pos 8192 ∷ [])) ≡ pos 0)
+unfolding computing s1-font
+number-and-zero = (refl, refl)
+
+-- A name id of 0 that is there is not one that is absent.
+pub name-of-0 : (isNamed (named 0) ≡ 1) × (nameOr (named 0) ≡ 0) × (isNamed absent ≡ 0) × (nameOr absent ≡ 0)
+name-of-0 = (refl, refl, refl, refl)
+
+pub refused-instance : (valueOr noInstance (refused 3) .subfamilyNameID ≡ 0) × (isNamed (valueOr noInstance (refused 3) .postScriptNameID) ≡ 0)
+unfolding noInstance
+refused-instance = (refl, refl)
+
+-- Thirteen measures, and some elements more.
+abbrev thirteen : ℕ → ℕ → ℕ → ℕ → ℕ → ℕ → ℕ → ℕ → ℕ → ℕ → ℕ → ℕ → ℕ → List Float → List Float
+thirteen a d l va vd vl c x w mw u s t more =
+    float (pos a) ∷ float (pos d) ∷ float (pos l)
+    ∷ float (pos va) ∷ float (pos vd) ∷ float (pos vl)
+    ∷ float (pos c) ∷ float (pos x) ∷ float (pos w) ∷ float (pos mw)
+    ∷ float (pos u) ∷ float (pos s) ∷ float (pos t) ∷ more
+
+abbrev unvaried : List Float → List Float
+unvaried more = thirteen 100 200 300 400 500 600 700 800 900 1000 1100 1200 1300 more
+
+-- Each measure has its own place, by the tag that shifts it; an element behind the thirteenth stays.
+pub each-in-its-place : changed (materializedMetrics (mvarFont 11) 2 default) 0 true (unvaried (float (pos 77) ∷ []))
+    ≡ thirteen 102 203 304 408 509 610 701 811 900 1000 1106 1205 1307 (float (pos 77) ∷ [])
+unfolding computing-measures changed fill
+each-in-its-place = refl
+
+pub vertical-ones-stay : changed (materializedMetrics (mvarFont 11) 2 default) 0 false (unvaried [])
+    ≡ thirteen 102 203 304 400 500 600 701 811 900 1000 1106 1205 1307 []
+unfolding computing-measures changed fill
+vertical-ones-stay = refl
+
+pub all-scaled : changed (linearScaled (float (pos 2))) 0 false (unvaried [])
+    ≡ thirteen 200 400 600 800 1000 1200 1400 1600 1800 2000 2200 2400 2600 []
+unfolding computing-measures changed fill
+all-scaled = refl
+
+-- 2000 pixels per em: with 1000 units per em twice as much; with none the same.
+pub for-pixels : (changed (scaledMetrics (float (pos 2000))) 1000 false (unvaried [])
+    ≡ thirteen 200 400 600 800 1000 1200 1400 1600 1800 2000 2200 2400 2600 [])
+    × (changed (scaledMetrics (float (pos 2000))) 0 false (unvaried []) ≡ unvaried [])
+unfolding computing-measures changed fill
+for-pixels = (refl, refl)
+
+-- Twelve elements are refused by 7, and stay.
+abbrev twelve : List Float
+twelve = float (pos 1) ∷ float (pos 2) ∷ float (pos 3) ∷ float (pos 4) ∷ float (pos 5) ∷ float (pos 6) ∷ float (pos 7) ∷ float (pos 8) ∷ float (pos 9) ∷ float (pos 10) ∷ float (pos 11) ∷ float (pos 12) ∷ []
+
+pub twelve-are-too-few : (number (roomIn twelve) ≡ 7) × (changed (linearScaled (float (pos 2))) 0 false twelve ≡ twelve) × (number (roomIn (unvaried [])) ≡ 0)
+unfolding computing-measures changed fill
+twelve-are-too-few = (refl, refl, refl)

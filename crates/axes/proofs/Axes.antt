@@ -8,10 +8,11 @@ use native.Mathlib.Nat.{mul-le-mul-right}
 use native.Mathlib.Omega.{arith}
 use borrow.Author.Tests.{lt-leb, lt-ltb, eq-eqb, ne-eqb, ltb-true, leb-true, leb-false}
 use lib.Dec.{leb, ltb}
+use lib.IntN.{pos}
 use lib.ListN.{length}
 use mir.Syntax.{w32}
 use mir.Val.{toZ}
-use Rattle.readers.specs.Outcome.{Outcome, value, refused, unless}
+use Rattle.readers.specs.Outcome.{Outcome, value, refused, unless, valueOr}
 use Rattle.readers.specs.Reading.{Done, bigEndian, unsignedAt, signedAt, run}
 use Rattle.readers.specs.Walk.{turns, walk}
 use Rattle.readers.proofs.Bytes.{present, missing, whole}
@@ -29,6 +30,19 @@ pub unreadable-misses : (tag : ℕ) (o : Outcome Axis) → readable o ≡ false 
 unfolding matches
 unreadable-misses tag (value a) e = absurd (true≢false e)
 unreadable-misses tag (refused n) e = refl
+
+-- A read where all its bytes are there, as the code takes it.
+pub read-there : (n : ℕ) (table : List ℕ) (p : ℕ) → p + n ≤ length table → valueOr 0 (run table (unsignedAt n p)) ≡ bigEndian n table p
+read-there n table p h = rw (← whole n table p _ h refl)
+
+-- Four bytes that are not there are 0, with or without a sign.
+pub signed-or-zero : (table : List ℕ) (p : ℕ) → toZ w32 (valueOr 0 (run table (unsignedAt 4 p))) ≡ valueOr (pos 0) (run table (signedAt w32 p))
+unfolding run unsignedAt signedAt
+signed-or-zero table p = go (leb (p + 4) (length table)) (bigEndian 4 table p)
+  where
+    go : (t : Bool) (x : ℕ) → toZ w32 (valueOr 0 (unless t 2 (value x))) ≡ valueOr (pos 0) (unless t 2 (value (toZ w32 x)))
+    go true x = refl
+    go false x = refl
 
 module _ (table : List ℕ) (i p : ℕ) where
   -- What the twenty bytes at p make.

@@ -1,12 +1,16 @@
 -- A coordinate that a call answered, in a definition that goes on after it. Assumes nothing.
 use Prim.Native.Nat.{ℕ, zero, suc, _+_, _-_, _≤_, _<_}
 use mathlib.Core.Path.{_≡_, refl, ap, sym, _∙_}
+use mathlib.Core.List.{List}
+use native.Mathlib.Omega.{arith}
 use borrow.Author.Tests.{le-leb, lt-leb}
 use lib.IntN.{ℤ, pos}
+use lib.ListN.{getD, replicate}
 use Rattle.numbers.specs.declared.F2Dot14.{F2Dot14}
 use Rattle.readers.specs.Outcome.{Outcome, value, refused, onward, valueOr}
 use Rattle.readers.specs.Reading.{Done, done}
 use Rattle.readers.specs.Walk.{turns, walk}
+use Rattle.readers.specs.Lent.{fill}
 use Rattle.readers.specs.Answers.{refusal, outcome16, outcomeF2Dot14}
 use Rattle.readers.specs.declared.Refusal.{Refusal}
 use Rattle.readers.specs.declared.Half.{Half}
@@ -14,6 +18,7 @@ use Rattle.readers.specs.declared.Half.the-variants as H
 use Rattle.readers.specs.declared.F2Dot14Answer.{F2Dot14Answer}
 use Rattle.readers.specs.declared.F2Dot14Answer.the-variants as D
 use Rattle.readers.proofs.Outcome.{onward-by, halt-by, unless-true, unless-false}
+use Rattle.readers.proofs.Lent.{fill-at, fill-same}
 use Rattle.axes.specs.Variation.{coordTurn, passed, counted}
 
 module _ {C : Type 0} (d : Outcome ℤ) (f : ℤ → Outcome C) where
@@ -60,5 +65,9 @@ module _ (coord : ℕ → Outcome ℤ) (n room : ℕ) where
   pub counted-all : (w : Outcome ℕ) → n ≤ room → w ≡ passed coord n → w ≡ counted coord n room
   unfolding counted
   counted-all w h e = unless-true _ _ _ w (le-leb n room h) e
+
+-- The first n elements of a list in which n coordinates waited, copied, are these.
+pub copied : (f : ℕ → ℤ) (n i : ℕ) (coords l out : List ℤ) → n ≤ 32 → n ≤ i → coords ≡ fill f i (replicate 32 (pos 0)) → out ≡ fill (λ (k : ℕ). getD coords k (pos 0)) n l → out ≡ fill f n l
+copied f n i coords l out h b p e = e ∙ fill-same _ _ n l (λ k a. ap (λ (cs : List ℤ). getD cs k (pos 0)) p ∙ fill-at _ _ _ _ _ (omega arith) (omega arith))
 
 pub ruleset coords = (onward-coord, halt-coord)

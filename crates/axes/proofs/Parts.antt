@@ -14,6 +14,7 @@ use Rattle.numbers.proofs.Laws.{ratio-mono, part-le, over-part, over-self}
 use Rattle.readers.specs.Outcome.{Outcome, value, onward}
 use Rattle.axes.specs.Avar.{adjusted}
 use Rattle.axes.specs.Axis.{fraction, held}
+use Rattle.axes.proofs.Quotient.{part-not-least}
 
 -- a choice by a test, by its two cases
 pub either : {A : Type 0} (t : Bool) (x y : A) (P : A → Type 0) → (t ≡ true → P x) → (t ≡ false → P y) → P (cond t x y)
@@ -42,18 +43,13 @@ share-mono n n′ (suc d) h = ratio-mono (n * 65536) (n′ * 65536) (suc d) (ome
 
 -- the fraction of two differences, below default with its sign changed: no refusal, and nothing wraps
 module _ (n d : ℕ) (part : n ≤ d) (some : 0 < d) where
-  not-least : eqb (quotient (n * 65536) d) 0x8000_0000 ≡ false
-  not-least =
-      let e : share n d % 0x1_0000_0000 ≡ share n d = omega (arith, part-le n d part some) in
-      rw (ne-eqb d 0 (λ z. omega arith), e) (ne-eqb (share n d) 0x8000_0000 (λ z. omega (arith, part-le n d part some)))
-
   fraction-up : fraction false (pos n) (pos d) ≡ value (pos (share n d))
   unfolding fraction
-  fraction-up = rw not-least (ap value (over-part n d part some))
+  fraction-up = rw (part-not-least n d part) (ap value (over-part n d part some))
 
   fraction-down : fraction true (pos n) (pos d) ≡ value (negℤ (pos (share n d)))
   unfolding fraction negated
-  fraction-down = rw (not-least, over-part n d part some)
+  fraction-down = rw (part-not-least n d part, over-part n d part some)
       (ap value (wrap-small (negℤ (pos (share n d))) (mag-neg (share n d) (2 ^ 31) (omega (arith, part-le n d part some)) (omega arith))))
 
 -- ---- what is done with a fraction: held, no avar, to 2.14

@@ -1,7 +1,7 @@
 -- When a quotient is -2^31, and the tests of a number's sign. Assumes nothing.
 use mathlib.Core.Path.{_≡_, refl, sym, _∙_}
-use mathlib.Core.Bool.{Bool, true, false, cond, not}
-use Prim.Native.Nat.{ℕ, zero, suc, _+_, _-_, _*_, _/_, _%_, _^_, _<_, zero-le}
+use mathlib.Core.Bool.{Bool, true, false, cond, not, true≢false}
+use Prim.Native.Nat.{ℕ, zero, suc, _+_, _-_, _*_, _/_, _%_, _^_, _≤_, _<_, zero-le}
 use native.Mathlib.Omega.{arith}
 use lib.IntN.{ℤ, pos, negsuc, natAbs}
 use lib.Dec.{eqb, ltb}
@@ -9,8 +9,10 @@ use lib.Signed.{mag, ltZ}
 use mir.Syntax.{w32}
 use mir.Val.{toZ}
 use borrow.Author.Tests.{le-ltb, eq-eqb, ne-eqb, eqb-true, eqb-false, ltb-true, ltb-false}
-use Rattle.numbers.specs.Numbers.{wrap32, isNeg, unlike, withSign, quotient, over}
-use Rattle.axes.specs.Axis.{isLeast}
+use Rattle.numbers.specs.Numbers.{wrap32, negated, isNeg, unlike, withSign, quotient, over}
+use Rattle.numbers.proofs.Laws.{part-le}
+use Rattle.readers.specs.Outcome.{value}
+use Rattle.axes.specs.Axis.{isLeast, fraction}
 
 -- Two tests of which each holds where the other does are one.
 same-test : (a b x y : ℕ) → (a ≡ x → b ≡ y) → (b ≡ y → a ≡ x) → eqb a x ≡ eqb b y
@@ -59,3 +61,18 @@ least-test (negsuc n) h = go (ltb n 0x7fff_ffff) refl
 pub neg-test : (x : ℤ) → ltZ x (pos 0) ≡ isNeg x
 neg-test (pos n) = le-ltb n 0 zero-le
 neg-test (negsuc n) = refl
+
+-- A part of a whole over the whole is at most 1; by 0 the quotient is 2^31 - 1.
+pub part-not-least : (n d : ℕ) → n ≤ d → eqb (quotient (n * 65536) d) 0x8000_0000 ≡ false
+part-not-least n zero h = refl
+part-not-least n (suc d) h =
+    let l = part-le n (suc d) h (omega arith) in
+    let e : (n * 65536 + suc d / 2) / suc d % 0x1_0000_0000 ≡ (n * 65536 + suc d / 2) / suc d = omega (arith, l) in
+    rw (ne-eqb (suc d) 0 (λ z. omega arith), e) (ne-eqb ((n * 65536 + suc d / 2) / suc d) 0x8000_0000 (λ z. omega (arith, l)))
+
+-- So where 0 ≤ n ≤ d nothing is refused.
+pub part-fraction : (below : Bool) (n d : ℤ) → ltZ n (pos 0) ≡ false → ltZ d n ≡ false → fraction below n d ≡ value (cond below (negated (over n d)) (over n d))
+unfolding fraction
+part-fraction below (pos n) (pos d) p q = rw (part-not-least n d (ltb-false d n q))
+part-fraction below (pos n) (negsuc d) p q = absurd (true≢false q)
+part-fraction below (negsuc n) d p q = absurd (true≢false p)

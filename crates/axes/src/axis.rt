@@ -95,9 +95,27 @@ impl VarAxis {
     }
 }
 
-// A difference over a difference, with the sign changed below default; refused where swash's arithmetic stops.
-// With either sign, the quotient's bits are 2^31 just where it is -2^31.
+// A difference over a difference, with the sign changed below default. Where min, default and max are in order, neither has a sign and the
+// quotient is at most 1: then nothing is refused, and the division is all there is to do.
 fn fraction(below: bool, n: Fixed, d: Fixed) -> FixedAnswer
+    ensures { λ r. ⌜ outcomeFixed r ≡ fraction below (n .0) (d .0) ⌝ }
+{
+    if n.lt(Fixed::ZERO) {
+        return signed_fraction(below, n, d);
+    }
+    if d.lt(n) {
+        return signed_fraction(below, n, d);
+    }
+    let r = n.div(d);
+    if below {
+        return FixedAnswer::Value(r.neg());
+    }
+    FixedAnswer::Value(r)
+}
+
+// The same of any two differences; refused where swash's arithmetic stops.
+// With either sign, the quotient's bits are 2^31 just where it is -2^31.
+fn signed_fraction(below: bool, n: Fixed, d: Fixed) -> FixedAnswer
     ensures { λ r. ⌜ outcomeFixed r ≡ fraction below (n .0) (d .0) ⌝ }
 {
     if is_least(n) {

@@ -61,6 +61,7 @@ pub(crate) enum RecordAnswer {
     Refused(Refusal),
 }
 
+// Two bytes, and four; 0 where they can't be read.
 fn field_at(table: &[u8], at: usize) -> u16
     ensures { λ r. ⌜ r ≡ fieldAt (now (table .entry)) at ⌝ }
 {
@@ -70,35 +71,29 @@ fn field_at(table: &[u8], at: usize) -> u16
     }
 }
 
-// The axis record at a position; an axis starts below 2^33.
+fn word_at(table: &[u8], at: usize) -> u32
+    ensures { λ r. ⌜ r ≡ valueOr 0 (run (now (table .entry)) (unsignedAt 4 at)) ⌝ }
+{
+    match u32_at(table, at) {
+        Word::Value(x) => x,
+        Word::Refused(_) => 0,
+    }
+}
+
+// The axis record at a position; an axis starts below 2^33. Its reads would all refuse alike: its twenty bytes are tested once.
 fn axis_at(table: &[u8], index: u16, at: usize) -> AxisAnswer
     requires { ⌜ at < 2 ^ 34 ⌝ }
     ensures { λ r. ⌜ axisOutcome r ≡ run (now (table .entry)) (axisRecord index at) ⌝ }
 {
-    let tag = match u32_at(table, at) {
-        Word::Value(x) => x,
-        Word::Refused(n) => return AxisAnswer::Refused(n),
-    };
-    let min = match fixed_at(table, at + 4) {
-        FixedAnswer::Value(x) => x,
-        FixedAnswer::Refused(n) => return AxisAnswer::Refused(n),
-    };
-    let default = match fixed_at(table, at + 8) {
-        FixedAnswer::Value(x) => x,
-        FixedAnswer::Refused(n) => return AxisAnswer::Refused(n),
-    };
-    let max = match fixed_at(table, at + 12) {
-        FixedAnswer::Value(x) => x,
-        FixedAnswer::Refused(n) => return AxisAnswer::Refused(n),
-    };
-    let flags = match u16_at(table, at + 16) {
-        Half::Value(x) => x,
-        Half::Refused(n) => return AxisAnswer::Refused(n),
-    };
-    let name_id = match u16_at(table, at + 18) {
-        Half::Value(x) => x,
-        Half::Refused(n) => return AxisAnswer::Refused(n),
-    };
+    if table.len() < at + 20 {
+        return AxisAnswer::Refused(Refusal::Short);
+    }
+    let tag = word_at(table, at);
+    let min = Fixed::from_bits(word_at(table, at + 4));
+    let default = Fixed::from_bits(word_at(table, at + 8));
+    let max = Fixed::from_bits(word_at(table, at + 12));
+    let flags = field_at(table, at + 16);
+    let name_id = field_at(table, at + 18);
     AxisAnswer::Value(VarAxis {
         index,
         tag,
@@ -311,8 +306,5 @@ pub fn instance_value(values: &[u8], i: u16) -> FixedAnswer
 pub(crate) fn value_or_zero(values: &[u8], i: u16) -> Fixed
     ensures { λ r. ⌜ r .0 ≡ valueIn (now (values .entry)) i ⌝ }
 {
-    match instance_value(values, i) {
-        FixedAnswer::Value(x) => x,
-        FixedAnswer::Refused(_) => Fixed::ZERO,
-    }
+    Fixed::from_bits(word_at(values, 4 * (i as usize)))
 }

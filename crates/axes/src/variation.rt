@@ -19,7 +19,7 @@ ghost use Rattle.readers.specs.Lent.{fill};
 ghost use Rattle.readers.specs.Answers.{outcome16, outcomeF2Dot14};
 ghost use Rattle.axes.specs.Axis.{noAxis};
 ghost use Rattle.axes.specs.Fvar.{axis};
-ghost use Rattle.axes.specs.Variation.{passed, axisCoord, settingCoord, settingsCount, settingsCoords, valueCoord, instanceCount, instanceCoords};
+ghost use Rattle.axes.specs.Variation.{passed, coordsIn, axisCoord, settingCoord, settingsCount, settingsCoords, valueCoord, instanceCount, instanceCoords};
 ghost use Rattle.axes.specs.AxisAnswers.{axisOf};
 ghost use Rattle.axes.specs.FvarAnswers.{header};
 
@@ -195,6 +195,36 @@ fn write_coords(fvar: Fvar, table: &[u8], font: &[u8], avar: u32, part: &[u8], o
     }
 }
 
+// Both passes as one, for at most 32 axes, as fonts have: the coordinates wait in a list of their own, as those from settings do, and none is worked out twice.
+fn few_coords(
+    fvar: Fvar,
+    table: &[u8],
+    font: &[u8],
+    avar: u32,
+    part: &[u8],
+    out: &mut [i16],
+) -> Half
+    requires { ⌜ fvar .«axis_count» ≤ 32 ⌝ }
+    requires { ⌜ fvar .«axis_count» ≤ length (now out) ⌝ }
+    ensures count { λ r. ⌜ outcome16 r ≡ passed (valueCoord (now (table .entry)) (header fvar) (now (font .entry)) avar (now (part .entry))) (fvar .«axis_count») ⌝ }
+    ensures list { λ r. ⌜ now (out .exit) ≡ coordsIn (valueCoord (now (table .entry)) (header fvar) (now (font .entry)) avar (now (part .entry))) (passed (valueCoord (now (table .entry)) (header fvar) (now (font .entry)) avar (now (part .entry))) (fvar .«axis_count»)) (now (out .entry)) ⌝ }
+{
+    let mut coords = [0i16; 32];
+    let mut i: u16 = 0;
+    while i < fvar.axis_count {
+        let axis = axis_or_none(fvar, table, i);
+        let c = match axis.normalized_coord(value_or_zero(part, i), font, avar) {
+            F2Dot14Answer::Value(c) => c,
+            F2Dot14Answer::Refused(n) => return Half::Refused(n),
+        };
+        let x = c.0;
+        coords[i as usize] = x;
+        i += 1;
+    }
+    copy(&coords, fvar.axis_count, out);
+    Half::Value(fvar.axis_count)
+}
+
 // The coordinates of a named instance, one for each axis, in the first elements of out; answers how many.
 pub fn instance_coords(
     fvar: Fvar,
@@ -217,6 +247,9 @@ pub fn instance_coords(
     }
     let to = from + 4 * (count as usize);
     let part = &table[from..to];
+    if count <= 32 {
+        return few_coords(fvar, table, font, avar, part, out);
+    }
     match first_pass(fvar, table, font, avar, part) {
         Half::Value(_) => {
             write_coords(fvar, table, font, avar, part, out);

@@ -1,26 +1,26 @@
 -- `axes::fvar::value_or_zero` meets its contract. Assumes nothing.
+use mathlib.Core.Path.{ap, _∙_}
 use borrow.Author.Needs.{needs}
+use mir.Syntax.{w32}
+use mir.Val.{toZ}
+use Rattle.axes.specs.Fvar.{instanceValue}
 use Rattle.axes.specs.Values.{valueIn}
+use Rattle.axes.proofs.Axes.{signed-or-zero}
 use Rattle.axes.proofs.fvar.value_or_zero.Statement.{statement}
 use Rattle.axes.proofs.fvar.value_or_zero.Tie as tie
 
-instance-value-requires : tie.Need-instance-value-requires
-instance-value-requires c κs = search needs
+mul-word-at : tie.Need-mul-word-at
+mul-word-at c = search needs
 
-enum-known-x : tie.Need-enum-known-x
-enum-known-x c = search needs
+word-at-requires : tie.Need-word-at-requires
+word-at-requires c κs = search needs
 
-enum-told : tie.Need-enum-told
-enum-told c = search needs
+from-bits-requires : tie.Need-from-bits-requires
+from-bits-requires c κs = search needs
 
 returns : tie.Need-returns
-unfolding valueIn
-returns c = rw (← c .before .before .before .instance-value .ensures, c .before .x .given .1)
-
-returns-2 : tie.Need-returns-2
-unfolding valueIn
-returns-2 c = rw (← c .before .before .instance-value .ensures, c .enum-told .given .1)
+unfolding valueIn instanceValue
+returns c = c .from-bits .ensures ∙ ap (toZ w32) (c .before .word-at .ensures) ∙ signed-or-zero _ _
 
 pub value-or-zero-spec : {M : Type 1} → statement M
-value-or-zero-spec =
-    tie.close (tie.spec instance-value-requires enum-known-x enum-told returns returns-2)
+value-or-zero-spec = tie.close (tie.spec mul-word-at word-at-requires from-bits-requires returns)

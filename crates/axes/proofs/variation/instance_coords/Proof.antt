@@ -1,6 +1,6 @@
 -- `axes::variation::instance_coords` meets its contract. Assumes nothing.
 use borrow.Author.Needs.{needs}
-use mathlib.Core.Path.{sym, ap, _∙_}
+use mathlib.Core.Path.{refl, sym, ap, _∙_}
 use native.Mathlib.Omega.{arith}
 use Rattle.readers.specs.Answers.{outcome16}
 use Rattle.readers.proofs.Lent.{wrote, left}
@@ -49,6 +49,19 @@ part-part-start c = search needs
 part-part-end : tie.Need-part-part-end
 part-part-end c = omega (arith, values-there _ _ _ (c .before .before .before .before .instance-record .ensures) (c .before .before .r .given .1))
 
+few-coords-requires : tie.Need-few-coords-requires
+few-coords-requires c κs = search needs
+
+same-length : tie.Need-same-length
+same-length c = search needs
+
+returns-3 : tie.Need-returns-3
+unfolding instanceCount instanceCoords
+returns-3 c =
+    let b = c .before .before .before .before .before in
+    let few = c .before .few-coords .ensures in
+    rw (values-part _ _ _ (b .before .before .before .before .instance-record .ensures) (b .before .before .r .given .1), ← counted-all _ _ _ _ (b .if1 .left) refl) few
+
 first-pass-requires : tie.Need-first-pass-requires
 first-pass-requires c κs = search needs
 
@@ -61,23 +74,23 @@ write-coords-requires c κs = search needs
 enum-known-n-2 : tie.Need-enum-known-n-2
 enum-known-n-2 c = search needs
 
-same-length : tie.Need-same-length
-same-length c = search needs
+same-length-2 : tie.Need-same-length-2
+same-length-2 c = search needs
 
-returns-3 : tie.Need-returns-3
+returns-4 : tie.Need-returns-4
 unfolding instanceCount instanceCoords coordsIn
-returns-3 c =
-    let b = c .before .before .before .before .before .before .before in
+returns-4 c =
+    let b = c .before .before .before .before .before .before .before .before in
     let call = b .before .before .before .before .instance-record .ensures in
     let case = b .before .before .r .given .1 in
     wrote _ _ _ _ _
     (rw (values-part _ _ _ call case) (counted-all _ _ _ _ (b .if1 .left) (all-passed _ _ (c .before .before .before .before .before .first-pass .ensures) (c .before .before .before .enum-told .given .1))))
     (rw (values-part _ _ _ call case) (c .before .write-coords .ensures))
 
-returns-4 : tie.Need-returns-4
+returns-5 : tie.Need-returns-5
 unfolding instanceCount instanceCoords coordsIn
-returns-4 c =
-    let b = c .before .before .before .before .before in
+returns-5 c =
+    let b = c .before .before .before .before .before .before in
     let call = b .before .before .before .before .instance-record .ensures in
     let case = b .before .before .r .given .1 in
     left _ _ _ _ (rw (values-part _ _ _ call case) (counted-all _ _ _ _ (b .if1 .left) (sym (ap outcome16 (c .before .n2 .given .1)) ∙ c .before .before .before .first-pass .ensures)))
@@ -98,10 +111,13 @@ instance-coords-spec =
     sub-part
     part-part-start
     part-part-end
+    few-coords-requires
+    same-length
+    returns-3
     first-pass-requires
     enum-told
     write-coords-requires
     enum-known-n-2
-    same-length
-    returns-3
-    returns-4)
+    same-length-2
+    returns-4
+    returns-5)

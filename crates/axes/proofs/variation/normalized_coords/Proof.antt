@@ -3,10 +3,9 @@
 use borrow.Author.Needs.{needs}
 use Prim.Native.Nat.{ℕ, _≤_, _-_}
 use mathlib.Core.Path.{_≡_, refl, ap, sym, _∙_}
-use mathlib.Core.List.{List}
 use native.Mathlib.Omega.{arith}
-use lib.IntN.{ℤ, pos}
-use lib.ListN.{length, getD, replicate}
+use lib.IntN.{pos}
+use lib.ListN.{length, replicate}
 use mir.Syntax.{w16}
 use mir.ValLaws.{toZ-ofZ}
 use borrow.Author.Tests.{eq-eqb, ne-eqb}
@@ -16,10 +15,10 @@ use Rattle.readers.specs.Walk.{walk}
 use Rattle.readers.specs.Lent.{fill}
 use Rattle.readers.proofs.Outcome.{unless-true, unless-false}
 use Rattle.readers.proofs.Walk.{turned, ended}
-use Rattle.readers.proofs.Lent.{fill-none, fill-more, fill-at, fill-same, fill-length, wrote, left}
+use Rattle.readers.proofs.Lent.{fill-none, fill-more, fill-length, wrote, left}
 use Rattle.axes.specs.FvarAnswers.{header}
 use Rattle.axes.specs.Variation.{coordTurn, coordsIn, settingCoord, settingsCount, settingsCoords}
-use Rattle.axes.proofs.Coords.{onward-coord, halt-coord, coord-is, passed-as, counted-short, counted-all}
+use Rattle.axes.proofs.Coords.{onward-coord, halt-coord, coord-is, passed-as, counted-short, counted-all, copied}
 use Rattle.axes.proofs.variation.normalized_coords.Statement.{statement}
 use Rattle.axes.proofs.variation.normalized_coords.Tie as tie
 
@@ -101,10 +100,6 @@ copy-requires c κs = search needs
 
 same-length : tie.Need-same-length Inv-loop μ-loop
 same-length c = ap length (c .before .copy .ensures) ∙ fill-length _ _ _
-
--- The first n elements of the list that waited, copied, are the coordinates.
-copied : (f : ℕ → ℤ) (n i : ℕ) (coords l out : List ℤ) → n ≤ 32 → n ≤ i → coords ≡ fill f i (replicate 32 (pos 0)) → out ≡ fill (λ (k : ℕ). getD coords k (pos 0)) n l → out ≡ fill f n l
-copied f n i coords l out h b p e = e ∙ fill-same _ _ n l (λ k a. ap (λ (cs : List ℤ). getD cs k (pos 0)) p ∙ fill-at _ _ _ _ _ (omega arith) (omega arith))
 
 returns-4 : tie.Need-returns-4 Inv-loop μ-loop
 unfolding settingsCoords coordsIn

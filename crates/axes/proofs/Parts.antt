@@ -2,13 +2,13 @@
 use mathlib.Core.Path.{_≡_, refl, sym, ap, _∙_}
 use mathlib.Core.Bool.{Bool, true, false, cond}
 use mathlib.Core.List.{List}
-use Prim.Native.Nat.{ℕ, zero, suc, _+_, _-_, _*_, _/_, _%_, _^_, _≤_, _<_}
+use Prim.Native.Nat.{ℕ, zero, suc, _+_, _-_, _*_, _/_, _^_, _≤_, _<_}
 use native.Mathlib.Nat.{div-zero, div-eq-of-lt}
 use native.Mathlib.Omega.{arith}
 use lib.IntN.{ℤ, pos, negsuc, negℤ}
-use lib.Dec.{ltb, eqb}
-use borrow.Author.Tests.{le-ltb, ltb-false, ne-eqb}
-use Rattle.numbers.specs.Numbers.{wrap16, floorZ, negated, toF2dot14, quotient}
+use lib.Dec.{ltb}
+use borrow.Author.Tests.{le-ltb, ltb-false}
+use Rattle.numbers.specs.Numbers.{wrap16, floorZ, negated, toF2dot14}
 use Rattle.numbers.proofs.Bits.{sub-ind, wrap-small, mag-neg, wrap16-small}
 use Rattle.numbers.proofs.Laws.{ratio-mono, part-le, over-part, over-self}
 use Rattle.readers.specs.Outcome.{Outcome, value, onward}

@@ -129,7 +129,7 @@ pub fn i8_at(font: &[u8], at: usize) -> Signed
     ensures { λ r. ⌜ outcomeI16 r ≡ run (now (font .entry)) (signedAt w8 at) ⌝ }
 {
     match u8_at(font, at) {
-        Byte::Value(x) => Signed::Value(as_i16((x as u16) * 256) >> 8), // the compiler has one instruction for this
+        Byte::Value(x) => Signed::Value(as_i16((x as u16) * 256) >> 8), // up to the high byte, and down again with its sign: one instruction
         Byte::Refused(n) => Signed::Refused(n),
     }
 }

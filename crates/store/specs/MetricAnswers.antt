@@ -22,7 +22,7 @@ abbrev pub deltaSetOutcome : DeltaSetAnswer → Outcome Metric.DeltaSetIndex
 deltaSetOutcome (D.Value d) = value (record { outer = d .outer; inner = d .inner })
 deltaSetOutcome (D.Refused n) = refusal n
 
--- The first two steps of a delta: the store, then the delta-set index there.
+-- Steps of the code, no rules: where the delta of a measure is, a store and the delta-set index by the table's map; ..
 pub record Place : Type 0 where
   pub store : ℕ
   pub outer : ℕ
@@ -38,6 +38,6 @@ abbrev pub placeOutcome : PlaceAnswer → Outcome Place
 placeOutcome (P.Value p) = value (record { store = p .store; outer = p .outer; inner = p .inner })
 placeOutcome (P.Refused n) = refusal n
 
--- The last one.
+-- .. and the delta at a place. A refusal on the way there is handed on.
 abbrev pub deltaFrom : List ℕ → List ℤ → Outcome Place → Outcome ℤ
 deltaFrom font coords place = onward place (λ p. itemDelta font (p .store) (p .outer) (p .inner) coords)

@@ -33,7 +33,7 @@ enum DeltaSetAnswer {
     Refused(Refusal),
 }
 
-// Where the delta of a measure is: a store, and a delta-set index there.
+// Where the delta of a measure is: a store, and the index of a delta set in it.
 struct Place {
     store: u32,
     outer: u32,
@@ -179,7 +179,7 @@ fn place_of(font: &[u8], base: u32, measure: Measure, glyph_id: u16) -> PlaceAns
     })
 }
 
-// The delta at a place. It and `place_of` stand side by side in whoever asks: neither hands font and coordinates on to the other.
+// The delta at a place (DECISIONS 77).
 fn delta_from(font: &[u8], place: PlaceAnswer, coords: &[i16]) -> FixedAnswer
     ensures { λ r. ⌜ outcomeFixed r ≡ deltaFrom (now (font .entry)) (now (coords .entry)) (placeOutcome place) ⌝ }
 {
@@ -217,7 +217,7 @@ pub fn float_of(delta: FixedAnswer) -> f32
     }
 }
 
-// The delta of an advance, as an answer and as a float.
+// The delta of an advance, as an answer and as a float. Written out, and not by `metric_delta`: DECISIONS 77.
 pub fn advance_delta_fixed(font: &[u8], xvar: u32, glyph_id: u16, coords: &[i16]) -> FixedAnswer
     ensures { λ r. ⌜ outcomeFixed r ≡ metricDelta (now (font .entry)) xvar advance «glyph_id» (now (coords .entry)) ⌝ }
 {
@@ -234,7 +234,7 @@ pub fn advance_delta(font: &[u8], xvar: u32, glyph_id: u16, coords: &[i16]) -> f
     float_of(advance_delta_fixed(font, xvar, glyph_id, coords))
 }
 
-// The delta of a side bearing, as an answer and as a float.
+// The delta of a side bearing, in the same way.
 pub fn sb_delta_fixed(font: &[u8], xvar: u32, glyph_id: u16, coords: &[i16]) -> FixedAnswer
     ensures { λ r. ⌜ outcomeFixed r ≡ metricDelta (now (font .entry)) xvar bearing «glyph_id» (now (coords .entry)) ⌝ }
 {

@@ -110,8 +110,8 @@ fn axis_at(font: &[u8], at: usize, c: F2Dot14, scalar: Fixed) -> AxisAnswer
     }
 }
 
-// The scalar of a region of the list whose regions start at a position: outside one of its triples it is 0, and the rest is not read. The triples are counted
-// over the whole list: a bound that is the same for every region would have the compiler make a second row loop for lists without axes.
+// The scalar of a region of the list whose regions start at a position: outside one of its triples it is 0, and the rest is not read. The bound is the region's own,
+// (region + 1)·axes (DECISIONS 78).
 pub(crate) fn region_scalar(
     font: &[u8],
     regions: usize,

@@ -7,13 +7,13 @@ use lib.IntN.{pos}
 use lib.Ieee.{Float}
 use Rattle.readers.specs.Outcome.{refused, number, valueOr}
 use Rattle.readers.specs.Lent.{fill}
-use Rattle.axes.specs.Fvar.{Instance, absent, named}
+use Rattle.axes.specs.Fvar.{absent, named}
 use Rattle.store.specs.Metric.{advance, bearing, metricDelta}
 use Rattle.store.proofs.DeltaTable.{computing, s1-font}
 use Rattle.metrics.specs.Scale.{float}
 use Rattle.metrics.specs.Measures.{materializedMetrics, linearScaled, scaledMetrics}
 use Rattle.metrics.proofs.MeasuresTable.{computing-measures, mvarFont, default}
-use Rattle.suolluvik.specs.Instance.{noInstance, isNamed, nameOr}
+use Rattle.suolluvik.specs.Fvar.{noInstance, isNamed, nameOrZero}
 use Rattle.suolluvik.specs.Measures.{roomIn, changed}
 
 -- S1: an advance has the number 0 beside its value; a bearing, for which there is no map, is refused by 1, and its value is 0.
@@ -26,7 +26,7 @@ unfolding computing s1-font
 number-and-zero = (refl, refl)
 
 -- A name id of 0 that is there is not one that is absent.
-pub name-of-0 : (isNamed (named 0) ≡ 1) × (nameOr (named 0) ≡ 0) × (isNamed absent ≡ 0) × (nameOr absent ≡ 0)
+pub name-of-0 : (isNamed (named 0) ≡ 1) × (nameOrZero (named 0) ≡ 0) × (isNamed absent ≡ 0) × (nameOrZero absent ≡ 0)
 name-of-0 = (refl, refl, refl, refl)
 
 pub refused-instance : (valueOr noInstance (refused 3) .subfamilyNameID ≡ 0) × (isNamed (valueOr noInstance (refused 3) .postScriptNameID) ≡ 0)

@@ -1,3 +1,3 @@
 -- What the exports add to the definitions that they cite.
-pub mod Instance
+pub mod Fvar
 pub mod Measures

@@ -46,7 +46,7 @@ roomIn l = unless (leb 13 (length l)) 7 (value 13)
 abbrev pub put : Metrics → ℕ → List Float → List Float
 put m n l = fill (λ k. getD (measures m) k nan) n l
 
--- What the list holds once a rule has changed its measures; on a refusal what it held.
+-- What the list holds once a rule has changed its measures; on a refusal what it held. A rule that does not look at one of the two other fields is handed 0, or false.
 unfoldable pub changed : (Metrics → Metrics) → ℕ → Bool → List Float → List Float
 changed rule unitsPerEm hasVerticalMetrics l =
     written (roomIn l) (put (rule (recordIn unitsPerEm hasVerticalMetrics l))) l

@@ -1,5 +1,5 @@
 // Coordinate lists: from settings, and for an instance. The fvar table is lent bare; avar is an offset in the font, 0 for none.
-use crate::fvar::half_value;
+use crate::counts::count_value;
 use axes::fvar::Fvar;
 use axes::variation::instance_coords;
 use axes::variation::normalized_coords;
@@ -9,6 +9,7 @@ ghost use Rattle.readers.specs.Outcome.{number, valueOr};
 ghost use Rattle.axes.specs.Fvar.{headerOf};
 ghost use Rattle.axes.specs.Variation.{settingsCount, settingsCoords, instanceCount, instanceCoords};
 
+// The coordinates that settings give, tags[s] with values[s]: at most 32; count is how many.
 #[no_mangle]
 pub extern "C" fn suolluvik_normalized_coords(
     table: &[u8],
@@ -24,12 +25,13 @@ pub extern "C" fn suolluvik_normalized_coords(
     ensures list { λ r. ⌜ now (out .exit) ≡ settingsCoords (now (table .entry)) (headerOf (now (table .entry))) (now (font .entry)) avar (now (tags .entry)) (now (values .entry)) (now (out .entry)) ⌝ }
 {
     let fvar = Fvar::new(table);
-    half_value(
+    count_value(
         normalized_coords(fvar, table, font, avar, tags, values, out),
         count,
     )
 }
 
+// The coordinates of an instance, one for each axis.
 #[no_mangle]
 pub extern "C" fn suolluvik_instance_coords(
     table: &[u8],
@@ -44,5 +46,5 @@ pub extern "C" fn suolluvik_instance_coords(
     ensures list { λ r. ⌜ now (out .exit) ≡ instanceCoords (now (table .entry)) (headerOf (now (table .entry))) (now (font .entry)) avar index (now (out .entry)) ⌝ }
 {
     let fvar = Fvar::new(table);
-    half_value(instance_coords(fvar, table, font, avar, index, out), count)
+    count_value(instance_coords(fvar, table, font, avar, index, out), count)
 }

@@ -41,6 +41,7 @@ fn float_value(delta: FixedAnswer, value: &mut f32) -> u8
     }
 }
 
+// The delta of a glyph's advance by the HVAR or VVAR at xvar; as a 16.16 number, and as a float.
 #[no_mangle]
 pub extern "C" fn suolluvik_advance_delta_fixed(
     font: &[u8],
@@ -69,6 +70,7 @@ pub extern "C" fn suolluvik_advance_delta(
     float_value(advance_delta_fixed(font, xvar, glyph_id, coords), value)
 }
 
+// The same of its left or top bearing.
 #[no_mangle]
 pub extern "C" fn suolluvik_sb_delta_fixed(
     font: &[u8],
@@ -97,6 +99,7 @@ pub extern "C" fn suolluvik_sb_delta(
     float_value(sb_delta_fixed(font, xvar, glyph_id, coords), value)
 }
 
+// The delta of a measure, by its tag, by the MVAR at an offset, which may be 0.
 #[no_mangle]
 pub extern "C" fn suolluvik_mvar_delta_fixed<'a>(
     font: &'a [u8],

@@ -1,21 +1,19 @@
 // Axes and instances of a bare fvar table.
+use crate::counts::count_value;
 use axes::fvar::AxisAnswer;
 use axes::fvar::Fvar;
 use axes::fvar::InstanceAnswer;
 use axes::fvar::NameId;
 use numbers::Fixed;
-use readers::Half;
 ghost use mathlib.Core.Path.{_≡_};
 ghost use lib.ListN.{length};
 ghost use Rattle.numbers.specs.Floats.{toFloat};
 ghost use Rattle.readers.specs.Outcome.{number, valueOr};
-ghost use Rattle.readers.specs.Reading.{run};
-ghost use Rattle.readers.specs.Answers.{outcome16};
 ghost use Rattle.axes.specs.Axis.{noAxis};
-ghost use Rattle.axes.specs.FvarAnswers.{axisOutcome, nameOf, instanceOutcome};
-ghost use Rattle.axes.specs.Fvar.{headerOf, axis, axisByTag, instance};
+ghost use Rattle.axes.specs.FvarAnswers.{axisOutcome, nameOf};
+ghost use Rattle.axes.specs.Fvar.{headerOf};
 ghost use Rattle.axes.specs.Values.{floatCount, floatsIn};
-ghost use Rattle.suolluvik.specs.Instance.{noInstance, isNamed, nameOr};
+ghost use Rattle.suolluvik.specs.Fvar.{axisIn, taggedIn, instanceIn, noInstance, isNamed, nameOrZero};
 
 // How many axes the header counts, and how many instances; 0 where that can't be read.
 #[no_mangle]
@@ -101,13 +99,13 @@ pub extern "C" fn suolluvik_axis(
     flags: &mut u16,
     name_id: &mut u16,
 ) -> u8
-    ensures number { λ r. ⌜ r ≡ number (run (now (table .entry)) (axis (headerOf (now (table .entry))) index)) ⌝ }
-    ensures tag { λ r. ⌜ now (tag .exit) ≡ valueOr noAxis (run (now (table .entry)) (axis (headerOf (now (table .entry))) index)) .axisTag ⌝ }
-    ensures min { λ r. ⌜ now (min .exit) ≡ valueOr noAxis (run (now (table .entry)) (axis (headerOf (now (table .entry))) index)) .minValue ⌝ }
-    ensures default { λ r. ⌜ now (default .exit) ≡ valueOr noAxis (run (now (table .entry)) (axis (headerOf (now (table .entry))) index)) .defaultValue ⌝ }
-    ensures max { λ r. ⌜ now (max .exit) ≡ valueOr noAxis (run (now (table .entry)) (axis (headerOf (now (table .entry))) index)) .maxValue ⌝ }
-    ensures flags { λ r. ⌜ now (flags .exit) ≡ valueOr noAxis (run (now (table .entry)) (axis (headerOf (now (table .entry))) index)) .flags ⌝ }
-    ensures name { λ r. ⌜ now («name_id» .exit) ≡ valueOr noAxis (run (now (table .entry)) (axis (headerOf (now (table .entry))) index)) .axisNameID ⌝ }
+    ensures number { λ r. ⌜ r ≡ number (axisIn (now (table .entry)) index) ⌝ }
+    ensures tag { λ r. ⌜ now (tag .exit) ≡ valueOr noAxis (axisIn (now (table .entry)) index) .axisTag ⌝ }
+    ensures min { λ r. ⌜ now (min .exit) ≡ valueOr noAxis (axisIn (now (table .entry)) index) .minValue ⌝ }
+    ensures default { λ r. ⌜ now (default .exit) ≡ valueOr noAxis (axisIn (now (table .entry)) index) .defaultValue ⌝ }
+    ensures max { λ r. ⌜ now (max .exit) ≡ valueOr noAxis (axisIn (now (table .entry)) index) .maxValue ⌝ }
+    ensures flags { λ r. ⌜ now (flags .exit) ≡ valueOr noAxis (axisIn (now (table .entry)) index) .flags ⌝ }
+    ensures name { λ r. ⌜ now («name_id» .exit) ≡ valueOr noAxis (axisIn (now (table .entry)) index) .axisNameID ⌝ }
 {
     let fvar = Fvar::new(table);
     axis_fields(
@@ -142,13 +140,13 @@ pub extern "C" fn suolluvik_axis_by_tag(
     flags: &mut u16,
     name_id: &mut u16,
 ) -> u8
-    ensures number { λ r. ⌜ r ≡ number (axisByTag (now (table .entry)) (headerOf (now (table .entry))) tag) ⌝ }
-    ensures index { λ r. ⌜ now (index .exit) ≡ valueOr noAxis (axisByTag (now (table .entry)) (headerOf (now (table .entry))) tag) .index ⌝ }
-    ensures min { λ r. ⌜ now (min .exit) ≡ valueOr noAxis (axisByTag (now (table .entry)) (headerOf (now (table .entry))) tag) .minValue ⌝ }
-    ensures default { λ r. ⌜ now (default .exit) ≡ valueOr noAxis (axisByTag (now (table .entry)) (headerOf (now (table .entry))) tag) .defaultValue ⌝ }
-    ensures max { λ r. ⌜ now (max .exit) ≡ valueOr noAxis (axisByTag (now (table .entry)) (headerOf (now (table .entry))) tag) .maxValue ⌝ }
-    ensures flags { λ r. ⌜ now (flags .exit) ≡ valueOr noAxis (axisByTag (now (table .entry)) (headerOf (now (table .entry))) tag) .flags ⌝ }
-    ensures name { λ r. ⌜ now («name_id» .exit) ≡ valueOr noAxis (axisByTag (now (table .entry)) (headerOf (now (table .entry))) tag) .axisNameID ⌝ }
+    ensures number { λ r. ⌜ r ≡ number (taggedIn (now (table .entry)) tag) ⌝ }
+    ensures index { λ r. ⌜ now (index .exit) ≡ valueOr noAxis (taggedIn (now (table .entry)) tag) .index ⌝ }
+    ensures min { λ r. ⌜ now (min .exit) ≡ valueOr noAxis (taggedIn (now (table .entry)) tag) .minValue ⌝ }
+    ensures default { λ r. ⌜ now (default .exit) ≡ valueOr noAxis (taggedIn (now (table .entry)) tag) .defaultValue ⌝ }
+    ensures max { λ r. ⌜ now (max .exit) ≡ valueOr noAxis (taggedIn (now (table .entry)) tag) .maxValue ⌝ }
+    ensures flags { λ r. ⌜ now (flags .exit) ≡ valueOr noAxis (taggedIn (now (table .entry)) tag) .flags ⌝ }
+    ensures name { λ r. ⌜ now («name_id» .exit) ≡ valueOr noAxis (taggedIn (now (table .entry)) tag) .axisNameID ⌝ }
 {
     let fvar = Fvar::new(table);
     let answer = fvar.get_axis_by_tag(table, tag);
@@ -168,7 +166,7 @@ fn named(name: NameId) -> u8
 }
 
 fn name_or_zero(name: NameId) -> u16
-    ensures { λ r. ⌜ r ≡ nameOr (nameOf name) ⌝ }
+    ensures { λ r. ⌜ r ≡ nameOrZero (nameOf name) ⌝ }
 {
     match name {
         NameId::Absent => 0,
@@ -185,10 +183,10 @@ pub extern "C" fn suolluvik_instance(
     has_postscript_name: &mut u8,
     postscript_name_id: &mut u16,
 ) -> u8
-    ensures number { λ r. ⌜ r ≡ number (instance (now (table .entry)) (headerOf (now (table .entry))) index) ⌝ }
-    ensures name { λ r. ⌜ now («name_id» .exit) ≡ valueOr noInstance (instance (now (table .entry)) (headerOf (now (table .entry))) index) .subfamilyNameID ⌝ }
-    ensures has { λ r. ⌜ now («has_postscript_name» .exit) ≡ isNamed (valueOr noInstance (instance (now (table .entry)) (headerOf (now (table .entry))) index) .postScriptNameID) ⌝ }
-    ensures postscript { λ r. ⌜ now («postscript_name_id» .exit) ≡ nameOr (valueOr noInstance (instance (now (table .entry)) (headerOf (now (table .entry))) index) .postScriptNameID) ⌝ }
+    ensures number { λ r. ⌜ r ≡ number (instanceIn (now (table .entry)) index) ⌝ }
+    ensures name { λ r. ⌜ now («name_id» .exit) ≡ valueOr noInstance (instanceIn (now (table .entry)) index) .subfamilyNameID ⌝ }
+    ensures has { λ r. ⌜ now («has_postscript_name» .exit) ≡ isNamed (valueOr noInstance (instanceIn (now (table .entry)) index) .postScriptNameID) ⌝ }
+    ensures postscript { λ r. ⌜ now («postscript_name_id» .exit) ≡ nameOrZero (valueOr noInstance (instanceIn (now (table .entry)) index) .postScriptNameID) ⌝ }
 {
     let fvar = Fvar::new(table);
     match fvar.get_instance(table, index) {
@@ -221,22 +219,5 @@ pub extern "C" fn suolluvik_instance_floats(
     ensures list { λ r. ⌜ now (out .exit) ≡ floatsIn (now (table .entry)) (headerOf (now (table .entry))) index (now (out .entry)) ⌝ }
 {
     let fvar = Fvar::new(table);
-    half_value(fvar.instance_floats(table, index, out), count)
-}
-
-// A count.
-pub(crate) fn half_value(answer: Half, count: &mut u16) -> u8
-    ensures number { λ r. ⌜ r ≡ number (outcome16 answer) ⌝ }
-    ensures count { λ r. ⌜ now (count .exit) ≡ valueOr 0 (outcome16 answer) ⌝ }
-{
-    match answer {
-        Half::Value(x) => {
-            *count = x;
-            0
-        }
-        Half::Refused(n) => {
-            *count = 0;
-            readers::number(n)
-        }
-    }
+    count_value(fvar.instance_floats(table, index, out), count)
 }

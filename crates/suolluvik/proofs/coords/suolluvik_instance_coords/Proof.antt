@@ -11,17 +11,17 @@ new-requires c κs = search needs
 instance-coords-requires : tie.Need-instance-coords-requires
 instance-coords-requires c κs = search needs
 
-half-value-requires : tie.Need-half-value-requires
-half-value-requires c κs = search needs
+count-value-requires : tie.Need-count-value-requires
+count-value-requires c κs = search needs
 
 same-length : tie.Need-same-length
 same-length c = search needs
 
 returns : tie.Need-returns
 returns c =
-    let told = c .half-value .ensures in
+    let told = c .count-value .ensures in
     let call = rw (c .before .before .before .before .before .new .ensures) at (c .before .before .before .instance-coords .ensures) in
     (told .0 ∙ ap number (call .0), (told .1 ∙ ap (valueOr 0) (call .0), call .1))
 
 pub suolluvik-instance-coords-spec : {M : Type 1} → statement M
-suolluvik-instance-coords-spec = tie.close (tie.spec new-requires instance-coords-requires half-value-requires same-length returns)
+suolluvik-instance-coords-spec = tie.close (tie.spec new-requires instance-coords-requires count-value-requires same-length returns)

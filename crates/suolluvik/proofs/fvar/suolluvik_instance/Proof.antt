@@ -1,10 +1,10 @@
 -- `suolluvik::fvar::suolluvik_instance` meets its contract. Assumes nothing.
 use borrow.Author.Needs.{needs}
-use mathlib.Core.Path.{refl, ap, sym, _∙_}
+use mathlib.Core.Path.{ap, sym, _∙_}
 use Rattle.readers.specs.Outcome.{Outcome, number, valueOr}
 use Rattle.axes.specs.Fvar.{Instance}
 use Rattle.axes.specs.FvarAnswers.{instanceOutcome}
-use Rattle.suolluvik.specs.Instance.{noInstance, isNamed, nameOr}
+use Rattle.suolluvik.specs.Fvar.{noInstance, isNamed, nameOrZero}
 use Rattle.suolluvik.proofs.fvar.suolluvik_instance.Statement.{statement}
 use Rattle.suolluvik.proofs.fvar.suolluvik_instance.Tie as tie
 
@@ -37,7 +37,7 @@ returns c =
         ap (λ (o : Outcome Instance). valueOr noInstance o .subfamilyNameID) is,
         (
           c .before .named .ensures ∙ ap (λ (o : Outcome Instance). isNamed (valueOr noInstance o .postScriptNameID)) is,
-          c .name-or-zero .ensures ∙ ap (λ (o : Outcome Instance). nameOr (valueOr noInstance o .postScriptNameID)) is,
+          c .name-or-zero .ensures ∙ ap (λ (o : Outcome Instance). nameOrZero (valueOr noInstance o .postScriptNameID)) is,
         ),
       ),
     )
@@ -51,7 +51,7 @@ returns-2 c =
         ap (λ (o : Outcome Instance). valueOr noInstance o .subfamilyNameID) is,
         (
           ap (λ (o : Outcome Instance). isNamed (valueOr noInstance o .postScriptNameID)) is,
-          ap (λ (o : Outcome Instance). nameOr (valueOr noInstance o .postScriptNameID)) is,
+          ap (λ (o : Outcome Instance). nameOrZero (valueOr noInstance o .postScriptNameID)) is,
         ),
       ),
     )

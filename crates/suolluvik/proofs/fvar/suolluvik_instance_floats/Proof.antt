@@ -11,17 +11,17 @@ new-requires c κs = search needs
 instance-floats-requires : tie.Need-instance-floats-requires
 instance-floats-requires c κs = search needs
 
-half-value-requires : tie.Need-half-value-requires
-half-value-requires c κs = search needs
+count-value-requires : tie.Need-count-value-requires
+count-value-requires c κs = search needs
 
 same-length : tie.Need-same-length
 same-length c = search needs
 
 returns : tie.Need-returns
 returns c =
-    let told = c .half-value .ensures in
+    let told = c .count-value .ensures in
     let call = rw (c .before .before .before .before .before .before .new .ensures) at (c .before .before .before .before .instance-floats .ensures) in
     (told .0 ∙ ap number (call .0), (told .1 ∙ ap (valueOr 0) (call .0), call .1))
 
 pub suolluvik-instance-floats-spec : {M : Type 1} → statement M
-suolluvik-instance-floats-spec = tie.close (tie.spec new-requires instance-floats-requires half-value-requires same-length returns)
+suolluvik-instance-floats-spec = tie.close (tie.spec new-requires instance-floats-requires count-value-requires same-length returns)

@@ -1,6 +1,6 @@
 # Tables from the lines of bench/run: WORK AXES OURS ON OFF CALLS FONT, the three as totals over CALLS; of several lines for a work
 # and a font the least. A row for each font, the mean over the places of its coordinates; with places=yes also one for each of
-# these. To the file ratios goes a row for each work.
+# these. To the file ratios goes a row for each work, and one for each number of axes.
 
 function title(kind) {
     if (kind == "advance") return "an advance delta"
@@ -44,7 +44,10 @@ END {
         printf "\n%s: %s\n\n", measure == "time" ? "Nanoseconds" : "Instructions", title(kind)
         print "| font | axes | coordinates | ours | swash, checks on | swash, checks off | ours / on | ours / off |"
         print "|---|---|---|---|---|---|---|---|"
-        mean_on = mean_off = count = most = 0
+        split("", mean_on)
+        split("", mean_off)
+        split("", count)
+        split("", most)
         for (i = 1; i <= rows[kind]; i++) {
             font = fonts[kind, i]
             if (places == "yes") row(font, axes[kind, i], at[kind, i], ours[kind, i], on[kind, i], off[kind, i])
@@ -54,12 +57,17 @@ END {
             j++
             if (i < rows[kind] && fonts[kind, i + 1] == font) continue
             if (places != "yes" || j > 1) row(font, axes[kind, i], j > 1 ? "all" : at[kind, i], a / j, b / j, c / j)
-            mean_on += a / b
-            mean_off += a / c
-            if (a / b > most) most = a / b
-            count++
+            # group 0 has all fonts, group n those with n axes
+            for (group = 0; group <= axes[kind, i]; group += axes[kind, i]) {
+                mean_on[group] += a / b
+                mean_off[group] += a / c
+                if (a / b > most[group]) most[group] = a / b
+                count[group]++
+            }
             a = b = c = j = 0
         }
-        printf "| %s | %s | %d | %.3f | %.3f | %.3f |\n", title(kind), measure, count, mean_on / count, most, mean_off / count >> ratios
+        for (group = 0; group <= 64; group++)
+            if (count[group])
+                printf "| %s%s | %s | %d | %.3f | %.3f | %.3f |\n", title(kind), group ? "; axes: " group : "", measure, count[group], mean_on[group] / count[group], most[group], mean_off[group] / count[group] >> ratios
     }
 }

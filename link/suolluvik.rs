@@ -9,7 +9,7 @@
 
 // Nothing checks these against the library's source: they say what suolluvik.h says.
 mod exports {
-    extern "C" {
+    unsafe extern "C" {
         pub fn suolluvik_advance_delta_fixed(
             font: *const u8,
             font_len: usize,
@@ -181,6 +181,14 @@ impl Refusal {
         self as u8
     }
 }
+
+impl std::fmt::Display for Refusal {
+    fn fmt(&self, f: &mut std::fmt::Formatter) -> std::fmt::Result {
+        write!(f, "refused by {}: {self:?}", self.number())
+    }
+}
+
+impl std::error::Error for Refusal {}
 
 /// The value, unless the number is a refusal's. The library answers 0 to 7 and nothing else.
 fn answer<T>(number: u8, value: T) -> Result<T, Refusal> {
@@ -458,7 +466,7 @@ pub mod measure {
 }
 
 /// From the unvaried measures those at some coordinates, in place, by the MVAR at the offset mvar, 0 for none; the vertical
-/// ones are shifted only with vertical metrics.
+/// ones are shifted only with vertical metrics. Where it does not open, or the coordinate list is empty, they stay.
 pub fn materialize_metrics(
     font: &[u8],
     mvar: u32,

@@ -2,6 +2,7 @@
  * refusal that the function can give. Values and lists hold something else before each call. A failed check is a line; the
  * last line is 'N passed, M failed', and the status 1 where one failed. tests/link builds and runs this. */
 #include "suolluvik.h"
+#include <math.h>
 
 #include <stdio.h>
 
@@ -161,7 +162,7 @@ static void try_deltas(void)
         }
         check(number == d->number && value == d->value, names[d->kind][0], d->name);
         /* each of these numbers is a float */
-        check(number_of_real == d->number && real == (float)d->value / 65536.0f, names[d->kind][1], d->name);
+        check(number_of_real == d->number && real == (float)d->value / 65536.0f && (d->number == 0 || !signbit(real)), names[d->kind][1], d->name);
     }
 }
 

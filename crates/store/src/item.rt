@@ -17,7 +17,7 @@ ghost use Rattle.readers.specs.Answers.{outcome16, outcomeI16, outcomeFixed};
 ghost use Rattle.store.specs.Item.{regionList, rowAt, itemAt, regionIndexAt, deltaAt, itemSum, itemDelta};
 ghost use Rattle.store.specs.ItemAnswers.{regionsOutcome, rowOutcome, itemOf, itemOutcome};
 
-// The region list: its store, and its offset from there (DECISIONS 79).
+// The region list: its store, and its offset from there (DECISIONS 80).
 struct RegionList {
     store: u32,
     offset: u32,
@@ -166,7 +166,7 @@ fn row_sum(font: &[u8], list: RegionList, data: ItemData, inner: u16, coords: &[
     FixedAnswer::Value(sum)
 }
 
-// What the store has for a delta-set index: all that is read before the row, as one answer (DECISIONS 77).
+// What the store has for a delta-set index: all that is read before the row, as one answer (DECISIONS 78).
 fn item_at(font: &[u8], store: u32, outer: u32, inner: u16) -> ItemAnswer
     ensures { λ r. ⌜ itemOutcome inner r ≡ run (now (font .entry)) (itemAt store outer inner) ⌝ }
 {

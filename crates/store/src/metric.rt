@@ -179,7 +179,7 @@ fn place_of(font: &[u8], base: u32, measure: Measure, glyph_id: u16) -> PlaceAns
     })
 }
 
-// The delta at a place (DECISIONS 77).
+// The delta at a place (DECISIONS 78).
 fn delta_from(font: &[u8], place: PlaceAnswer, coords: &[i16]) -> FixedAnswer
     ensures { λ r. ⌜ outcomeFixed r ≡ deltaFrom (now (font .entry)) (now (coords .entry)) (placeOutcome place) ⌝ }
 {
@@ -217,7 +217,7 @@ pub fn float_of(delta: FixedAnswer) -> f32
     }
 }
 
-// The delta of an advance, as an answer and as a float. Written out, and not by `metric_delta`: DECISIONS 77.
+// The delta of an advance, as an answer and as a float. Written out, and not by `metric_delta`: DECISIONS 78.
 pub fn advance_delta_fixed(font: &[u8], xvar: u32, glyph_id: u16, coords: &[i16]) -> FixedAnswer
     ensures { λ r. ⌜ outcomeFixed r ≡ metricDelta (now (font .entry)) xvar advance «glyph_id» (now (coords .entry)) ⌝ }
 {

@@ -111,7 +111,7 @@ fn axis_at(font: &[u8], at: usize, c: F2Dot14, scalar: Fixed) -> AxisAnswer
 }
 
 // The scalar of a region of the list whose regions start at a position: outside one of its triples it is 0, and the rest is not read. The bound is the region's own,
-// (region + 1)·axes (DECISIONS 78).
+// (region + 1)·axes (DECISIONS 79).
 pub(crate) fn region_scalar(
     font: &[u8],
     regions: usize,

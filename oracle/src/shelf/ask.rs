@@ -472,6 +472,14 @@ impl<'a> Asker<'a, '_> {
             all
         };
         let most = PAIRS / glyphs.len();
+        if lists.len() > most {
+            let left = lists.len() - most;
+            println!(
+                "left out, {left} of {} coordinate lists: {}",
+                lists.len(),
+                self.judge.input
+            );
+        }
         let horizontal = [
             (
                 Map::Advance,

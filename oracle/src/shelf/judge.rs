@@ -115,16 +115,12 @@ impl Tally {
 /// Stands for a refusal that changed a lent list, which none may.
 pub const CHANGED: u8 = 255;
 
-/// So many differences of each function are listed in full.
-const LISTED: u64 = 3;
-
 pub struct Judge {
     /// the font, and what was done to it
     pub input: String,
     /// for the progress: which of how many fonts
     pub place: String,
     pub tallies: [Tally; FUNCTIONS.len()],
-    listed: [u64; FUNCTIONS.len()],
     said: Instant,
 }
 
@@ -134,7 +130,6 @@ impl Judge {
             input: String::new(),
             place: String::new(),
             tallies: [Tally::default(); FUNCTIONS.len()],
-            listed: [0; FUNCTIONS.len()],
             said: Instant::now(),
         }
     }
@@ -183,11 +178,6 @@ impl Judge {
             return;
         }
         tally.differences += 1;
-        let listed = &mut self.listed[function as usize];
-        *listed += 1;
-        if *listed > LISTED {
-            return;
-        }
         let done = match rust {
             Rust::Answer(answer) => format!("{answer:?}"),
             Rust::None => "None".to_string(),

@@ -13,17 +13,18 @@ use Rattle.store.proofs.DeltaTable.{computing, s1-font}
 use Rattle.metrics.specs.Scale.{float}
 use Rattle.metrics.specs.Measures.{materializedMetrics, linearScaled, scaledMetrics}
 use Rattle.metrics.proofs.MeasuresTable.{computing-measures, mvarFont, default}
+use Rattle.suolluvik.specs.Numbered.{numbered}
 use Rattle.suolluvik.specs.Fvar.{noInstance, isNamed, nameOrZero}
 use Rattle.suolluvik.specs.Measures.{roomIn, changed}
 
 -- S1: an advance has the number 0 beside its value; a bearing, for which there is no map, is refused by 1, and its value is 0.
-pub number-and-value : (number (metricDelta s1-font 4 advance 0 (pos 8192 ∷ [])) ≡ 0) × (valueOr (pos 0) (metricDelta s1-font 4 advance 0 (pos 8192 ∷ [])) ≡ pos 3276800)
+pub number-and-value : numbered (pos 0) (metricDelta s1-font 4 advance 0 (pos 8192 ∷ [])) ≡ (0, pos 3276800)
 unfolding computing s1-font
-number-and-value = (refl, refl)
+number-and-value = refl
 
-pub number-and-zero : (number (metricDelta s1-font 4 bearing 0 (pos 8192 ∷ [])) ≡ 1) × (valueOr (pos 0) (metricDelta s1-font 4 bearing 0 (pos 8192 ∷ [])) ≡ pos 0)
+pub number-and-zero : numbered (pos 0) (metricDelta s1-font 4 bearing 0 (pos 8192 ∷ [])) ≡ (1, pos 0)
 unfolding computing s1-font
-number-and-zero = (refl, refl)
+number-and-zero = refl
 
 -- A name id of 0 that is there is not one that is absent.
 pub name-of-0 : (isNamed (named 0) ≡ 1) × (nameOrZero (named 0) ≡ 0) × (isNamed absent ≡ 0) × (nameOrZero absent ≡ 0)

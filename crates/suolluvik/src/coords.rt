@@ -5,9 +5,9 @@ use axes::variation::instance_coords;
 use axes::variation::normalized_coords;
 ghost use mathlib.Core.Path.{_≡_};
 ghost use lib.ListN.{length};
-ghost use Rattle.readers.specs.Outcome.{number, valueOr};
 ghost use Rattle.axes.specs.Fvar.{headerOf};
 ghost use Rattle.axes.specs.Variation.{settingsCount, settingsCoords, instanceCount, instanceCoords};
+ghost use Rattle.suolluvik.specs.Numbered.{numbered};
 
 // The coordinates that settings give, tags[s] with values[s]: at most 32; count is how many.
 #[no_mangle]
@@ -20,8 +20,7 @@ pub extern "C" fn suolluvik_normalized_coords(
     out: &mut [i16],
     count: &mut u16,
 ) -> u8
-    ensures number { λ r. ⌜ r ≡ number (settingsCount (now (table .entry)) (headerOf (now (table .entry))) (now (font .entry)) avar (now (tags .entry)) (now (values .entry)) (length (now (out .entry)))) ⌝ }
-    ensures count { λ r. ⌜ now (count .exit) ≡ valueOr 0 (settingsCount (now (table .entry)) (headerOf (now (table .entry))) (now (font .entry)) avar (now (tags .entry)) (now (values .entry)) (length (now (out .entry)))) ⌝ }
+    ensures count { λ r. ⌜ (r, now (count .exit)) ≡ numbered 0 (settingsCount (now (table .entry)) (headerOf (now (table .entry))) (now (font .entry)) avar (now (tags .entry)) (now (values .entry)) (length (now (out .entry)))) ⌝ }
     ensures list { λ r. ⌜ now (out .exit) ≡ settingsCoords (now (table .entry)) (headerOf (now (table .entry))) (now (font .entry)) avar (now (tags .entry)) (now (values .entry)) (now (out .entry)) ⌝ }
 {
     let fvar = Fvar::new(table);
@@ -41,8 +40,7 @@ pub extern "C" fn suolluvik_instance_coords(
     out: &mut [i16],
     count: &mut u16,
 ) -> u8
-    ensures number { λ r. ⌜ r ≡ number (instanceCount (now (table .entry)) (headerOf (now (table .entry))) (now (font .entry)) avar index (length (now (out .entry)))) ⌝ }
-    ensures count { λ r. ⌜ now (count .exit) ≡ valueOr 0 (instanceCount (now (table .entry)) (headerOf (now (table .entry))) (now (font .entry)) avar index (length (now (out .entry)))) ⌝ }
+    ensures count { λ r. ⌜ (r, now (count .exit)) ≡ numbered 0 (instanceCount (now (table .entry)) (headerOf (now (table .entry))) (now (font .entry)) avar index (length (now (out .entry)))) ⌝ }
     ensures list { λ r. ⌜ now (out .exit) ≡ instanceCoords (now (table .entry)) (headerOf (now (table .entry))) (now (font .entry)) avar index (now (out .entry)) ⌝ }
 {
     let fvar = Fvar::new(table);

@@ -6,15 +6,14 @@ use store::metric::sb_delta_fixed;
 use store::mvar::mvar_delta;
 ghost use mathlib.Core.Path.{_≡_};
 ghost use lib.IntN.{pos};
-ghost use Rattle.readers.specs.Outcome.{number, valueOr};
 ghost use Rattle.readers.specs.Answers.{outcomeFixed};
-ghost use Rattle.store.specs.Metric.{advance, bearing, metricDelta, floatOf};
+ghost use Rattle.store.specs.Metric.{advance, bearing, metricDelta};
 ghost use Rattle.store.specs.Mvar.{mvarDelta};
+ghost use Rattle.suolluvik.specs.Numbered.{numbered, numberedFloat};
 
 // A delta as its raw number.
 fn fixed_value(delta: FixedAnswer, value: &mut i32) -> u8
-    ensures number { λ r. ⌜ r ≡ number (outcomeFixed delta) ⌝ }
-    ensures value { λ r. ⌜ now (value .exit) ≡ valueOr (pos 0) (outcomeFixed delta) ⌝ }
+    ensures { λ r. ⌜ (r, now (value .exit)) ≡ numbered (pos 0) (outcomeFixed delta) ⌝ }
 {
     match delta {
         FixedAnswer::Value(x) => {
@@ -31,8 +30,7 @@ fn fixed_value(delta: FixedAnswer, value: &mut i32) -> u8
 
 // A delta as a float.
 fn float_value(delta: FixedAnswer, value: &mut f32) -> u8
-    ensures number { λ r. ⌜ r ≡ number (outcomeFixed delta) ⌝ }
-    ensures value { λ r. ⌜ now (value .exit) ≡ floatOf (outcomeFixed delta) ⌝ }
+    ensures { λ r. ⌜ (r, now (value .exit)) ≡ numberedFloat (outcomeFixed delta) ⌝ }
 {
     *value = float_of(delta);
     match delta {
@@ -50,8 +48,7 @@ pub extern "C" fn suolluvik_advance_delta_fixed(
     coords: &[i16],
     value: &mut i32,
 ) -> u8
-    ensures number { λ r. ⌜ r ≡ number (metricDelta (now (font .entry)) xvar advance «glyph_id» (now (coords .entry))) ⌝ }
-    ensures value { λ r. ⌜ now (value .exit) ≡ valueOr (pos 0) (metricDelta (now (font .entry)) xvar advance «glyph_id» (now (coords .entry))) ⌝ }
+    ensures { λ r. ⌜ (r, now (value .exit)) ≡ numbered (pos 0) (metricDelta (now (font .entry)) xvar advance «glyph_id» (now (coords .entry))) ⌝ }
 {
     fixed_value(advance_delta_fixed(font, xvar, glyph_id, coords), value)
 }
@@ -64,8 +61,7 @@ pub extern "C" fn suolluvik_advance_delta(
     coords: &[i16],
     value: &mut f32,
 ) -> u8
-    ensures number { λ r. ⌜ r ≡ number (metricDelta (now (font .entry)) xvar advance «glyph_id» (now (coords .entry))) ⌝ }
-    ensures value { λ r. ⌜ now (value .exit) ≡ floatOf (metricDelta (now (font .entry)) xvar advance «glyph_id» (now (coords .entry))) ⌝ }
+    ensures { λ r. ⌜ (r, now (value .exit)) ≡ numberedFloat (metricDelta (now (font .entry)) xvar advance «glyph_id» (now (coords .entry))) ⌝ }
 {
     float_value(advance_delta_fixed(font, xvar, glyph_id, coords), value)
 }
@@ -79,8 +75,7 @@ pub extern "C" fn suolluvik_sb_delta_fixed(
     coords: &[i16],
     value: &mut i32,
 ) -> u8
-    ensures number { λ r. ⌜ r ≡ number (metricDelta (now (font .entry)) xvar bearing «glyph_id» (now (coords .entry))) ⌝ }
-    ensures value { λ r. ⌜ now (value .exit) ≡ valueOr (pos 0) (metricDelta (now (font .entry)) xvar bearing «glyph_id» (now (coords .entry))) ⌝ }
+    ensures { λ r. ⌜ (r, now (value .exit)) ≡ numbered (pos 0) (metricDelta (now (font .entry)) xvar bearing «glyph_id» (now (coords .entry))) ⌝ }
 {
     fixed_value(sb_delta_fixed(font, xvar, glyph_id, coords), value)
 }
@@ -93,8 +88,7 @@ pub extern "C" fn suolluvik_sb_delta(
     coords: &[i16],
     value: &mut f32,
 ) -> u8
-    ensures number { λ r. ⌜ r ≡ number (metricDelta (now (font .entry)) xvar bearing «glyph_id» (now (coords .entry))) ⌝ }
-    ensures value { λ r. ⌜ now (value .exit) ≡ floatOf (metricDelta (now (font .entry)) xvar bearing «glyph_id» (now (coords .entry))) ⌝ }
+    ensures { λ r. ⌜ (r, now (value .exit)) ≡ numberedFloat (metricDelta (now (font .entry)) xvar bearing «glyph_id» (now (coords .entry))) ⌝ }
 {
     float_value(sb_delta_fixed(font, xvar, glyph_id, coords), value)
 }
@@ -108,8 +102,7 @@ pub extern "C" fn suolluvik_mvar_delta_fixed<'a>(
     coords: &'a [i16],
     value: &mut i32,
 ) -> u8
-    ensures number { λ r. ⌜ r ≡ number (mvarDelta (now (font .entry)) mvar tag (now (coords .entry))) ⌝ }
-    ensures value { λ r. ⌜ now (value .exit) ≡ valueOr (pos 0) (mvarDelta (now (font .entry)) mvar tag (now (coords .entry))) ⌝ }
+    ensures { λ r. ⌜ (r, now (value .exit)) ≡ numbered (pos 0) (mvarDelta (now (font .entry)) mvar tag (now (coords .entry))) ⌝ }
 {
     fixed_value(mvar_delta(font, mvar, tag, coords), value)
 }
@@ -122,8 +115,7 @@ pub extern "C" fn suolluvik_mvar_delta<'a>(
     coords: &'a [i16],
     value: &mut f32,
 ) -> u8
-    ensures number { λ r. ⌜ r ≡ number (mvarDelta (now (font .entry)) mvar tag (now (coords .entry))) ⌝ }
-    ensures value { λ r. ⌜ now (value .exit) ≡ floatOf (mvarDelta (now (font .entry)) mvar tag (now (coords .entry))) ⌝ }
+    ensures { λ r. ⌜ (r, now (value .exit)) ≡ numberedFloat (mvarDelta (now (font .entry)) mvar tag (now (coords .entry))) ⌝ }
 {
     float_value(mvar_delta(font, mvar, tag, coords), value)
 }

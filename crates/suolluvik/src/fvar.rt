@@ -13,6 +13,7 @@ ghost use Rattle.axes.specs.Axis.{noAxis};
 ghost use Rattle.axes.specs.FvarAnswers.{axisOutcome, nameOf};
 ghost use Rattle.axes.specs.Fvar.{headerOf};
 ghost use Rattle.axes.specs.Values.{floatCount, floatsIn};
+ghost use Rattle.suolluvik.specs.Numbered.{numbered};
 ghost use Rattle.suolluvik.specs.Fvar.{axisIn, taggedIn, instanceIn, noInstance, isNamed, nameOrZero};
 
 // How many axes the header counts, and how many instances; 0 where that can't be read.
@@ -214,8 +215,7 @@ pub extern "C" fn suolluvik_instance_floats(
     out: &mut [f32],
     count: &mut u16,
 ) -> u8
-    ensures number { λ r. ⌜ r ≡ number (floatCount (now (table .entry)) (headerOf (now (table .entry))) index (length (now (out .entry)))) ⌝ }
-    ensures count { λ r. ⌜ now (count .exit) ≡ valueOr 0 (floatCount (now (table .entry)) (headerOf (now (table .entry))) index (length (now (out .entry)))) ⌝ }
+    ensures count { λ r. ⌜ (r, now (count .exit)) ≡ numbered 0 (floatCount (now (table .entry)) (headerOf (now (table .entry))) index (length (now (out .entry)))) ⌝ }
     ensures list { λ r. ⌜ now (out .exit) ≡ floatsIn (now (table .entry)) (headerOf (now (table .entry))) index (now (out .entry)) ⌝ }
 {
     let fvar = Fvar::new(table);

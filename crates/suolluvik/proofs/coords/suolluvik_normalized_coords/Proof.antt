@@ -1,7 +1,7 @@
 -- `suolluvik::coords::suolluvik_normalized_coords` meets its contract. Assumes nothing.
 use borrow.Author.Needs.{needs}
 use mathlib.Core.Path.{ap, _∙_}
-use Rattle.readers.specs.Outcome.{number, valueOr}
+use Rattle.suolluvik.specs.Numbered.{numbered}
 use Rattle.suolluvik.proofs.coords.suolluvik_normalized_coords.Statement.{statement}
 use Rattle.suolluvik.proofs.coords.suolluvik_normalized_coords.Tie as tie
 
@@ -19,9 +19,8 @@ same-length c = search needs
 
 returns : tie.Need-returns
 returns c =
-    let told = c .count-value .ensures in
     let call = rw (c .before .before .before .before .before .new .ensures) at (c .before .before .before .normalized-coords .ensures) in
-    (told .0 ∙ ap number (call .0), (told .1 ∙ ap (valueOr 0) (call .0), call .1))
+    (c .count-value .ensures ∙ ap (numbered 0) (call .0), call .1)
 
 pub suolluvik-normalized-coords-spec : {M : Type 1} → statement M
 suolluvik-normalized-coords-spec = tie.close (tie.spec new-requires normalized-coords-requires count-value-requires same-length returns)

@@ -1,8 +1,7 @@
 -- `suolluvik::deltas::suolluvik_sb_delta` meets its contract. Assumes nothing.
 use borrow.Author.Needs.{needs}
 use mathlib.Core.Path.{ap, _∙_}
-use Rattle.readers.specs.Outcome.{number}
-use Rattle.store.specs.Metric.{floatOf}
+use Rattle.suolluvik.specs.Numbered.{numberedFloat}
 use Rattle.suolluvik.proofs.deltas.suolluvik_sb_delta.Statement.{statement}
 use Rattle.suolluvik.proofs.deltas.suolluvik_sb_delta.Tie as tie
 
@@ -13,10 +12,7 @@ float-value-requires : tie.Need-float-value-requires
 float-value-requires c κs = search needs
 
 returns : tie.Need-returns
-returns c =
-    let told = c .before .before .sb-delta-fixed .ensures in
-    let passed = c .float-value .ensures in
-    (passed .0 ∙ ap number told, passed .1 ∙ ap floatOf told)
+returns c = c .float-value .ensures ∙ ap numberedFloat (c .before .before .sb-delta-fixed .ensures)
 
 pub suolluvik-sb-delta-spec : {M : Type 1} → statement M
 suolluvik-sb-delta-spec = tie.close (tie.spec sb-delta-fixed-requires float-value-requires returns)

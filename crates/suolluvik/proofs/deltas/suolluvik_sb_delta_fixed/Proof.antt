@@ -2,7 +2,7 @@
 use borrow.Author.Needs.{needs}
 use mathlib.Core.Path.{ap, _∙_}
 use lib.IntN.{pos}
-use Rattle.readers.specs.Outcome.{number, valueOr}
+use Rattle.suolluvik.specs.Numbered.{numbered}
 use Rattle.suolluvik.proofs.deltas.suolluvik_sb_delta_fixed.Statement.{statement}
 use Rattle.suolluvik.proofs.deltas.suolluvik_sb_delta_fixed.Tie as tie
 
@@ -13,10 +13,7 @@ fixed-value-requires : tie.Need-fixed-value-requires
 fixed-value-requires c κs = search needs
 
 returns : tie.Need-returns
-returns c =
-    let told = c .before .before .sb-delta-fixed .ensures in
-    let passed = c .fixed-value .ensures in
-    (passed .0 ∙ ap number told, passed .1 ∙ ap (valueOr (pos 0)) told)
+returns c = c .fixed-value .ensures ∙ ap (numbered (pos 0)) (c .before .before .sb-delta-fixed .ensures)
 
 pub suolluvik-sb-delta-fixed-spec : {M : Type 1} → statement M
 suolluvik-sb-delta-fixed-spec = tie.close (tie.spec sb-delta-fixed-requires fixed-value-requires returns)

@@ -1,14 +1,17 @@
 -- Deltas as floats, a bearing through its own map, and an opened MVAR on small fonts, computed by the definitions that the contracts cite. Assumes nothing.
 use mathlib.Core.Path.{_≡_, refl}
+use mathlib.Core.Bool.{true, false}
 use mathlib.Core.List.{List, [], _∷_, _++_}
 use Prim.Native.Nat.{ℕ}
 use lib.IntN.{pos}
 use lib.ListN.{drop}
 use Rattle.readers.specs.Outcome.{value, refused, number, valueOr}
 use Rattle.store.specs.Metric.{advance, bearing, metricDelta, floatOf}
-use Rattle.store.specs.Mvar.{Header, Opened, headerDelta, opened, noMvar, openedDelta}
+use Rattle.store.specs.Mvar.{Header, Opened, opened, noMvar, openedDelta}
+use Rattle.store.specs.MvarAnswers.{openedFloat}
+use Rattle.store.specs.MvarTags.{hasc}
+use Rattle.store.specs.MvarDeltas.{Deltas, deltasBy}
 use Rattle.store.proofs.DeltaTable.{mapped, s1-font, s2-font}
-use Rattle.metrics.specs.Measures.{hasc}
 use Rattle.metrics.proofs.MeasuresTable.{computing-measures, mvarFont, default}
 use Rattle.examples.proofs.Written.{float}
 
@@ -73,7 +76,26 @@ pub asked-for-a-float : (floatOf (openedDelta (kept 100) hasc) ≡ float 0x4000_
 unfolding deltas
 asked-for-a-float = (refl, refl)
 
--- By the numbers of a header: records and store count from the MVAR's start, and a header of one record leads to the first tag alone, whatever the font says.
-pub asked-by-a-header : (headerDelta (mvarFont 11) 2 (headed 11 100) default hasc ≡ float 0x4000_0000) × (headerDelta (mvarFont 11) 2 (headed 1 100) default hasc ≡ float 0)
+-- Deltas from the bits of eleven floats.
+abbrev eleven : ℕ → ℕ → ℕ → ℕ → ℕ → ℕ → ℕ → ℕ → ℕ → ℕ → ℕ → Deltas
+eleven a d l c x u s t va vd vl = record {
+  hasc = float a;
+  hdsc = float d;
+  hlgp = float l;
+  cpht = float c;
+  xhgt = float x;
+  undo = float u;
+  stro = float s;
+  unds = float t;
+  vasc = float va;
+  vdsc = float vd;
+  vlgp = float vl;
+}
+
+-- Those of all tags, of the horizontal ones, and of ascender and descender alone: what is not wanted is 0.0.
+pub asked-for-measures :
+    (deltasBy true true (openedFloat (kept 100)) ≡ eleven 0x4000_0000 0x4040_0000 0x4080_0000 0x3f80_0000 0x4130_0000 0x40c0_0000 0x40a0_0000 0x40e0_0000 0x4100_0000 0x4110_0000 0x4120_0000)
+    × (deltasBy true false (openedFloat (kept 100)) ≡ eleven 0x4000_0000 0x4040_0000 0x4080_0000 0x3f80_0000 0x4130_0000 0x40c0_0000 0x40a0_0000 0x40e0_0000 0 0 0)
+    × (deltasBy false false (openedFloat (kept 100)) ≡ eleven 0x4000_0000 0x4040_0000 0 0 0 0 0 0 0 0 0)
 unfolding deltas
-asked-by-a-header = (refl, refl)
+asked-for-measures = (refl, refl, refl)

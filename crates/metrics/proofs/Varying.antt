@@ -1,4 +1,4 @@
--- Where a header was opened, MVAR shifts by the deltas that its numbers lead to; elsewhere nothing is shifted. And the measures are shifted in two steps. Assumes nothing.
+-- Where an MVAR opens, it shifts by the deltas that it is asked for; elsewhere nothing is shifted. And the measures are shifted in two steps. Assumes nothing.
 use Prim.Native.Nat.{ℕ}
 use mathlib.Core.Path.{_≡_, refl, ap, ap₂, sym, _∙_, fun-ext}
 use mathlib.Core.Logic.{_≢_}
@@ -9,58 +9,62 @@ use lib.ListN.{length, drop}
 use lib.IntN.{ℤ}
 use lib.Ieee.{Float}
 use borrow.Author.Tests.{eq-eqb, ne-eqb}
-use Rattle.readers.specs.Outcome.{Outcome, value, refused, unless}
+use Rattle.readers.specs.Outcome.{Outcome, value, refused, valueOr, number}
 use Rattle.readers.specs.Reading.{run}
 use Rattle.store.specs.Metric.{floatOf}
-use Rattle.store.specs.Mvar.{Header, headerAt, headerDelta}
-use Rattle.store.proofs.Opened.{header-answers}
-use Rattle.metrics.specs.Measures.{Metrics, Follows, always, vertically, never, each, shift, opens, varies, measureDelta}
-use Rattle.metrics.specs.Structs.{shiftVertical}
-
--- There is an MVAR, and there are coordinates.
-abbrev asked : ℕ → List ℤ → Bool
-asked mvar coords = not (eqb mvar 0) && not (eqb (length coords) 0)
-
-module _ (mvar : ℕ) (coords : List ℤ) (o : Outcome Header) where
-  pub no-mvar : mvar ≡ 0 → refused 1 ≡ unless (asked mvar coords) 1 o
-  no-mvar e = ap (λ absent. unless (not absent && not (eqb (length coords) 0)) 1 o) (sym (eq-eqb mvar 0 e))
-
-  pub no-coordinates : length coords ≡ 0 → refused 1 ≡ unless (asked mvar coords) 1 o
-  no-coordinates e =
-      ap (λ with. unless with 1 o) (sym (and-false (not (eqb mvar 0)))) ∙ ap (λ empty. unless (not (eqb mvar 0) && not empty) 1 o) (sym (eq-eqb (length coords) 0 e))
-
-  pub both-there : mvar ≢ 0 → length coords ≢ 0 → o ≡ unless (asked mvar coords) 1 o
-  both-there e f = ap₂ (λ absent empty. unless (not absent && not empty) 1 o) (sym (ne-eqb mvar 0 e)) (sym (ne-eqb (length coords) 0 f))
-
--- The two tests before opening, and the three of the definition, are the same.
-test-opens : (a b : Bool) (o : Outcome Header) → (a && (opens o && b)) ≡ opens (unless (a && b) 1 o)
-test-opens true true (value h) = refl
-test-opens true true (refused n) = refl
-test-opens true false (value h) = refl
-test-opens true false (refused n) = refl
-test-opens false b o = refl
-
--- What passed the tests is what was read.
-passed : (a : Bool) (o : Outcome Header) (h : Header) → value h ≡ unless a 1 o → o ≡ value h
-passed true o h e = sym e
-passed false o h e = search
+use Rattle.store.specs.Mvar.{Header, headerAt, opened, noMvar}
+use Rattle.store.specs.MvarAnswers.{openedFloat}
+use Rattle.store.specs.MvarDeltas.{deltasBy}
+use Rattle.store.proofs.Opened.{opened-answers, read-by-number, refused-by-number}
+use Rattle.metrics.specs.Measures.{Metrics, Follows, always, vertically, never, each, shift, shifted, opens, varies, measureDelta}
+use Rattle.metrics.specs.Structs.{shiftVertical, tagged}
 
 module _ {A : Type 0} (font : List ℕ) (mvar : ℕ) (coords : List ℤ) (by : (ℕ → Float) → A) (unvaried : A) where
-  abbrev read : Outcome Header
-  read = unless (asked mvar coords) 1 (run (drop mvar font) headerAt)
+  abbrev pub whole : A
+  whole = cond (varies font mvar coords) (by (measureDelta font mvar coords)) unvaried
 
-  varies-by : (o : Outcome Header) → o ≡ read → varies font mvar coords ≡ opens o
+  abbrev test : Bool → Bool → Outcome Header → Bool
+  test absent empty o = not absent && (opens o && not empty)
+
+  by-test : (b : Bool) → varies font mvar coords ≡ b → cond b (by (measureDelta font mvar coords)) unvaried ≡ whole
+  by-test b e = ap (λ b. cond b (by (measureDelta font mvar coords)) unvaried) (sym e)
+
+  -- Where there is no MVAR, where there are no coordinates, and where it does not open, nothing is shifted.
+  pub no-mvar : mvar ≡ 0 → unvaried ≡ whole
   unfolding varies
-  varies-by o e = test-opens (not (eqb mvar 0)) (not (eqb (length coords) 0)) (run (drop mvar font) headerAt) ∙ ap opens (sym e)
+  no-mvar e = by-test false (ap (λ absent. test absent (eqb (length coords) 0) (run (drop mvar font) headerAt)) (eq-eqb mvar 0 e))
 
-  pub shifts : (h : Header) → value h ≡ read → by (headerDelta font mvar h coords) ≡ cond (varies font mvar coords) (by (measureDelta font mvar coords)) unvaried
-  shifts h e =
-      let opened = passed (asked mvar coords) (run (drop mvar font) headerAt) h e in
-      ap by (fun-ext (λ tag. ap floatOf (header-answers font mvar coords tag h opened)))
-      ∙ ap (λ b. cond b (by (measureDelta font mvar coords)) unvaried) (sym (varies-by (value h) e))
+  pub no-coordinates : length coords ≡ 0 → unvaried ≡ whole
+  unfolding varies
+  no-coordinates e = by-test false (ap (λ empty. test (eqb mvar 0) empty (run (drop mvar font) headerAt)) (eq-eqb (length coords) 0 e) ∙ none (eqb mvar 0) (opens (run (drop mvar font) headerAt)))
+    where
+      none : (a o : Bool) → (not a && (o && false)) ≡ false
+      none true o = refl
+      none false true = refl
+      none false false = refl
 
-  pub stays : (n : ℕ) → refused n ≡ read → unvaried ≡ cond (varies font mvar coords) (by (measureDelta font mvar coords)) unvaried
-  stays n e = ap (λ b. cond b (by (measureDelta font mvar coords)) unvaried) (sym (varies-by (refused n) e))
+  pub not-opened : (n : ℕ) → n ≡ number (opened font mvar coords) → n ≢ 0 → unvaried ≡ whole
+  unfolding varies
+  not-opened n e f =
+      let refusal = refused-by-number font mvar coords (λ z. f (e ∙ z)) in
+      by-test false (ap (test (eqb mvar 0) (eqb (length coords) 0)) (refusal .1) ∙ and-false (not (eqb mvar 0)))
+
+  -- Elsewhere an opened MVAR has the deltas that are asked.
+  pub shifts : (n : ℕ) → n ≡ number (opened font mvar coords) → n ≡ 0 → mvar ≢ 0 → length coords ≢ 0 → by (openedFloat (valueOr noMvar (opened font mvar coords))) ≡ whole
+  unfolding varies
+  shifts n e z there some =
+      let header = read-by-number font mvar coords (sym e ∙ z) in
+      ap by (fun-ext (λ tag. ap floatOf (opened-answers font mvar coords tag (header .0) (header .1))))
+      ∙ by-test true (ap₂ (λ absent empty. test absent empty (run (drop mvar font) headerAt)) (ne-eqb mvar 0 there) (ne-eqb (length coords) 0 some) ∙ ap (test false false) (header .1))
+
+-- The deltas that are asked for are all that shift the measures.
+module _ (delta : ℕ → Float) (m : Metrics) where
+  by-flag : (vertical : Bool) → each (shift vertical (tagged (deltasBy true vertical delta))) m ≡ each (shift vertical delta) m
+  by-flag true = refl
+  by-flag false = refl
+
+  pub all-asked : (horizontal vertical : Bool) → horizontal ≡ true → vertical ≡ m .hasVerticalMetrics → shifted (tagged (deltasBy horizontal vertical delta)) m ≡ shifted delta m
+  all-asked horizontal vertical e f = ap₂ (λ h v. shifted (tagged (deltasBy h v delta)) m) e f ∙ by-flag (m .hasVerticalMetrics)
 
 -- With vertical metrics: all but the vertical measures, then those.
 module _ (delta : ℕ → Float) where

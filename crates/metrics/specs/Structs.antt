@@ -1,9 +1,13 @@
 -- What the structs and enums of `metrics` stand for, and a step on the way.
 use Prim.Native.Nat.{ℕ}
+use mathlib.Core.Bool.{cond}
 use mathlib.Core.Option.{Option, none, some}
+use lib.Dec.{eqb}
 use lib.IntN.{ℤ}
 use lib.Ieee.{Float}
-use Rattle.metrics.specs.Scale.{plus}
+use Rattle.store.specs.MvarTags as T
+use Rattle.store.specs.MvarDeltas.{Deltas}
+use Rattle.metrics.specs.Scale.{plus, zero}
 use Rattle.metrics.specs.Measures as Measures
 use Rattle.metrics.specs.Measures.{Follows, always, vertically, never}
 use Rattle.metrics.specs.Vertical as Vertically
@@ -63,3 +67,18 @@ abbrev pub shiftVertical : (ℕ → Float) → Follows → Float → Float
 shiftVertical delta (always t) x = x
 shiftVertical delta (vertically t) x = plus x (delta t)
 shiftVertical delta never x = x
+
+-- The delta of a tag, among deltas by their tags.
+abbrev pub tagged : Deltas → ℕ → Float
+tagged d tag =
+    (cond (eqb tag T.hasc) (d .hasc)
+    (cond (eqb tag T.hdsc) (d .hdsc)
+    (cond (eqb tag T.hlgp) (d .hlgp)
+    (cond (eqb tag T.cpht) (d .cpht)
+    (cond (eqb tag T.xhgt) (d .xhgt)
+    (cond (eqb tag T.undo) (d .undo)
+    (cond (eqb tag T.stro) (d .stro)
+    (cond (eqb tag T.unds) (d .unds)
+    (cond (eqb tag T.vasc) (d .vasc)
+    (cond (eqb tag T.vdsc) (d .vdsc)
+    (cond (eqb tag T.vlgp) (d .vlgp) zero)))))))))))

@@ -5,7 +5,8 @@ use mathlib.Core.List.{List}
 use lib.IntN.{ℤ}
 use lib.Ieee.{Float}
 use Rattle.metrics.specs.Scale.{plus}
-use Rattle.metrics.specs.Measures.{hasc, hdsc, varies, measureDelta}
+use Rattle.store.specs.MvarTags.{hasc, hdsc}
+use Rattle.metrics.specs.Measures.{varies, measureDelta}
 
 -- vmtx with glyf, or with VORG, by the tables' offsets and counts; or an advance height and an origin for all glyphs, as floats.
 pub data Vertical : Type 0 where

@@ -1,20 +1,13 @@
 // The measures of a font.
-use readers::Refusal;
-use store::mvar::Header;
-use store::mvar::HeaderAnswer;
-use store::mvar::mvar_header;
-use store::mvar_tags::*;
+use crate::deltas::opened_deltas;
+use store::mvar_deltas::MeasureDeltas;
+use store::mvar_deltas::Wanted;
 ghost use mathlib.Core.Path.{_≡_};
-ghost use mathlib.Core.Bool.{false, not, _&&_};
-ghost use lib.Dec.{eqb};
-ghost use lib.ListN.{length, drop};
-ghost use Rattle.readers.specs.Outcome.{unless};
-ghost use Rattle.readers.specs.Reading.{run};
-ghost use Rattle.store.specs.Mvar.{headerAt, headerDelta};
-ghost use Rattle.store.specs.MvarAnswers.{headerOutcome, numbersOf};
+ghost use mathlib.Core.Bool.{true, false};
+ghost use Rattle.store.specs.MvarDeltas.{deltasOf, wantsHorizontal, wantsVertical};
 ghost use Rattle.metrics.specs.Scale.{scaleFor};
 ghost use Rattle.metrics.specs.Measures.{each, shift, shifted, materializedMetrics, linearScaled, scaledMetrics};
-ghost use Rattle.metrics.specs.Structs.{metricsOf, shiftVertical};
+ghost use Rattle.metrics.specs.Structs.{metricsOf, shiftVertical, tagged};
 
 // Global font metrics.
 pub struct Metrics {
@@ -94,70 +87,49 @@ pub(crate) fn scale_for(ppem: f32, units_per_em: u16) -> f32
     ppem / (units_per_em as f32)
 }
 
-// The header of the MVAR that shifts measures. No caller hands its refusals on: where there is no MVAR, where there are no coordinates and where it does not open, nothing is shifted.
-pub(crate) fn varying(font: &[u8], mvar: u32, coords: &[i16]) -> HeaderAnswer
-    ensures { λ r. ⌜ headerOutcome r ≡ unless (not (eqb mvar 0) && not (eqb (length (now (coords .entry))) 0)) 1 (run (drop mvar (now (font .entry))) headerAt) ⌝ }
+// Which deltas shift the measures.
+fn wanted_for(vertical: bool) -> Wanted
+    ensures { λ r. ⌜ (wantsHorizontal r ≡ true) × (wantsVertical r ≡ vertical) ⌝ }
 {
-    if mvar == 0 {
-        return HeaderAnswer::Refused(Refusal::Absent);
+    if vertical {
+        return Wanted::All;
     }
-    if coords.len() == 0 {
-        return HeaderAnswer::Refused(Refusal::Absent);
-    }
-    mvar_header(font, mvar)
+    Wanted::Horizontal
 }
 
-// All but the vertical measures, with the deltas of an MVAR whose header is known.
-fn shifted_always<'a>(
-    unvaried: Metrics,
-    font: &'a [u8],
-    mvar: u32,
-    header: Header,
-    coords: &'a [i16],
-) -> Metrics
-    ensures { λ r. ⌜ metricsOf r ≡ each (shift false (headerDelta (now (font .entry)) mvar (numbersOf header) (now (coords .entry)))) (metricsOf unvaried) ⌝ }
+// All but the vertical measures, with their deltas.
+fn shifted_always(unvaried: Metrics, d: MeasureDeltas) -> Metrics
+    ensures { λ r. ⌜ metricsOf r ≡ each (shift false (tagged (deltasOf d))) (metricsOf unvaried) ⌝ }
 {
     let mut m = unvaried;
-    m.ascent += header.delta(font, mvar, HASC, coords);
-    m.descent += header.delta(font, mvar, HDSC, coords);
-    m.leading += header.delta(font, mvar, HLGP, coords);
-    m.cap_height += header.delta(font, mvar, CPHT, coords);
-    m.x_height += header.delta(font, mvar, XHGT, coords);
-    m.underline_offset += header.delta(font, mvar, UNDO, coords);
-    m.strikeout_offset += header.delta(font, mvar, STRO, coords);
-    m.stroke_size += header.delta(font, mvar, UNDS, coords);
+    m.ascent += d.hasc;
+    m.descent += d.hdsc;
+    m.leading += d.hlgp;
+    m.cap_height += d.cpht;
+    m.x_height += d.xhgt;
+    m.underline_offset += d.undo;
+    m.strikeout_offset += d.stro;
+    m.stroke_size += d.unds;
     m
 }
 
 // The vertical ones.
-fn shifted_vertically<'a>(
-    unvaried: Metrics,
-    font: &'a [u8],
-    mvar: u32,
-    header: Header,
-    coords: &'a [i16],
-) -> Metrics
-    ensures { λ r. ⌜ metricsOf r ≡ each (shiftVertical (headerDelta (now (font .entry)) mvar (numbersOf header) (now (coords .entry)))) (metricsOf unvaried) ⌝ }
+fn shifted_vertically(unvaried: Metrics, d: MeasureDeltas) -> Metrics
+    ensures { λ r. ⌜ metricsOf r ≡ each (shiftVertical (tagged (deltasOf d))) (metricsOf unvaried) ⌝ }
 {
     let mut m = unvaried;
-    m.vertical_ascent += header.delta(font, mvar, VASC, coords);
-    m.vertical_descent += header.delta(font, mvar, VDSC, coords);
-    m.vertical_leading += header.delta(font, mvar, VLGP, coords);
+    m.vertical_ascent += d.vasc;
+    m.vertical_descent += d.vdsc;
+    m.vertical_leading += d.vlgp;
     m
 }
 
-fn shifted<'a>(
-    unvaried: Metrics,
-    font: &'a [u8],
-    mvar: u32,
-    header: Header,
-    coords: &'a [i16],
-) -> Metrics
-    ensures { λ r. ⌜ metricsOf r ≡ shifted (headerDelta (now (font .entry)) mvar (numbersOf header) (now (coords .entry))) (metricsOf unvaried) ⌝ }
+fn shifted(unvaried: Metrics, d: MeasureDeltas) -> Metrics
+    ensures { λ r. ⌜ metricsOf r ≡ shifted (tagged (deltasOf d)) (metricsOf unvaried) ⌝ }
 {
-    let m = shifted_always(unvaried, font, mvar, header, coords);
+    let m = shifted_always(unvaried, d);
     if unvaried.has_vertical_metrics {
-        return shifted_vertically(m, font, mvar, header, coords);
+        return shifted_vertically(m, d);
     }
     m
 }
@@ -171,8 +143,17 @@ pub fn materialize_metrics<'a>(
 ) -> Metrics
     ensures { λ r. ⌜ metricsOf r ≡ materializedMetrics (now (font .entry)) mvar (now (coords .entry)) (metricsOf unvaried) ⌝ }
 {
-    match varying(font, mvar, coords) {
-        HeaderAnswer::Value(header) => shifted(unvaried, font, mvar, header, coords),
-        HeaderAnswer::Refused(_) => unvaried,
+    if mvar == 0 {
+        return unvaried;
     }
+    if coords.len() == 0 {
+        return unvaried;
+    }
+    let mut number: u8 = 0;
+    let wanted = wanted_for(unvaried.has_vertical_metrics);
+    let d = opened_deltas(font, mvar, coords, &mut number, wanted);
+    if number != 0 {
+        return unvaried;
+    }
+    shifted(unvaried, d)
 }

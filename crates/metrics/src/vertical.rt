@@ -1,13 +1,8 @@
 // What a font has for vertical type.
-use crate::measures::varying;
-use store::mvar::Header;
-use store::mvar::HeaderAnswer;
-use store::mvar_tags::HASC;
-use store::mvar_tags::HDSC;
+use crate::deltas::opened_deltas;
+use store::mvar_deltas::Wanted;
 ghost use mathlib.Core.Path.{_≡_};
-ghost use Rattle.store.specs.MvarAnswers.{numbersOf};
-ghost use Rattle.store.specs.Mvar.{headerDelta};
-ghost use Rattle.metrics.specs.Vertical.{hasVerticalMetrics, synthesizedFrom, synthesizedAt, shiftedSynthesized, materializedVertical};
+ghost use Rattle.metrics.specs.Vertical.{hasVerticalMetrics, synthesizedFrom, synthesizedAt, materializedVertical};
 ghost use Rattle.metrics.specs.Structs.{verticalOf};
 
 // Of the tables, the offsets and counts are kept for whoever reads a glyph's unvaried numbers; VVAR's alone is used here.
@@ -34,26 +29,7 @@ pub enum Vertical {
     },
 }
 
-// The synthesized case, with the deltas of an MVAR whose header is known. The advance's two deltas are added to each other first, as in swash.
-fn shifted_synthesized<'a>(
-    font: &'a [u8],
-    mvar: u32,
-    header: Header,
-    coords: &'a [i16],
-    advance: f32,
-    origin: f32,
-) -> Vertical
-    ensures { λ r. ⌜ verticalOf r ≡ shiftedSynthesized (headerDelta (now (font .entry)) mvar (numbersOf header) (now (coords .entry))) mvar advance origin ⌝ }
-{
-    let ascent_delta = header.delta(font, mvar, HASC, coords);
-    let descent_delta = header.delta(font, mvar, HDSC, coords);
-    Vertical::Synthesized {
-        mvar,
-        advance: advance + (ascent_delta + descent_delta),
-        origin: origin + ascent_delta,
-    }
-}
-
+// The synthesized case at some coordinates. The advance's two deltas are added to each other first, as in swash.
 fn materialize_synthesized<'a>(
     font: &'a [u8],
     mvar: u32,
@@ -63,15 +39,26 @@ fn materialize_synthesized<'a>(
 ) -> Vertical
     ensures { λ r. ⌜ verticalOf r ≡ synthesizedAt (now (font .entry)) (now (coords .entry)) mvar advance origin ⌝ }
 {
-    match varying(font, mvar, coords) {
-        HeaderAnswer::Value(header) => {
-            shifted_synthesized(font, mvar, header, coords, advance, origin)
-        }
-        HeaderAnswer::Refused(_) => Vertical::Synthesized {
-            mvar,
-            advance,
-            origin,
-        },
+    let unvaried = Vertical::Synthesized {
+        mvar,
+        advance,
+        origin,
+    };
+    if mvar == 0 {
+        return unvaried;
+    }
+    if coords.len() == 0 {
+        return unvaried;
+    }
+    let mut number: u8 = 0;
+    let d = opened_deltas(font, mvar, coords, &mut number, Wanted::Ascents);
+    if number != 0 {
+        return unvaried;
+    }
+    Vertical::Synthesized {
+        mvar,
+        advance: advance + (d.hasc + d.hdsc),
+        origin: origin + d.hasc,
     }
 }
 

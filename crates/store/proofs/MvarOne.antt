@@ -1,5 +1,5 @@
 -- No second answer: for each plain public function of `mvar`, two answers that its contract allows are the same. Assumes nothing.
-use mathlib.Core.Path.{_≡_, refl, ap, sym, _∙_}
+use mathlib.Core.Path.{_≡_, refl, ap}
 use Rattle.readers.proofs.One.{refusal-back, back, one-by, oneFixed}
 use Rattle.store.specs.Mvar.{Header}
 use Rattle.store.specs.MvarAnswers.{headerOutcome}
@@ -7,7 +7,6 @@ use Rattle.store.specs.declared.mvar.HeaderAnswer.{HeaderAnswer}
 use Rattle.store.specs.declared.mvar.HeaderAnswer.the-variants as H
 use Rattle.store.proofs.mvar.mvar_delta.Reads as mvar-delta
 use Rattle.store.proofs.mvar.mvar_header.Reads as mvar-header
-use Rattle.store.proofs.mvar.Header.delta.Reads as header-delta
 
 -- The answer whose value is a header.
 abbrev headed : Header → HeaderAnswer
@@ -22,6 +21,3 @@ mvar-header-one κs a r r′ s s′ p q = one-by headerOutcome headed H.Refused 
 
 pub mvar-delta-one : (κs : _) (a : _) (r r′ : _) (s s′ : _) → mvar-delta.Post κs a r s → mvar-delta.Post κs a r′ s′ → r ≡ r′
 mvar-delta-one κs a r r′ s s′ p q = oneFixed p q
-
-pub header-delta-one : (κs : _) (a : _) (r r′ : _) (s s′ : _) → header-delta.Post κs a r s → header-delta.Post κs a r′ s′ → r ≡ r′
-header-delta-one κs a r r′ s s′ p q = p ∙ sym q

@@ -3,6 +3,7 @@ use Prim.Native.Nat.{ℕ, _+_}
 use mathlib.Core.Path.{_≡_, refl, ap, sym, _∙_}
 use mathlib.Core.Bool.{Bool, true, false, cond, not, _||_}
 use mathlib.Core.List.{List, []}
+use borrow.Author.Tests.{eqb-false}
 use lib.Dec.{leb, eqb}
 use lib.ListN.{length, drop}
 use lib.IntN.{ℤ}
@@ -98,3 +99,26 @@ pub opened-answers : (font : List ℕ) (start : ℕ) (coords : List ℤ) (tag : 
     → openedDelta (valueOr noMvar (opened font start coords)) tag ≡ mvarDelta font start tag coords
 unfolding opened openedDelta
 opened-answers font start coords tag h e = rw (e, header-answers font start coords tag h e)
+
+-- The number beside an opened MVAR tells whether its header was read.
+by-number : (o : Outcome Header) → Telling o → number o ≡ 0 → (h : Header) × (o ≡ value h)
+by-number (value h) t e = (h, refl)
+by-number (refused n) t e = absurd (eqb-false n 0 t e)
+
+not-by-number : (o : Outcome Header) → (number o ≡ 0 → ⊥) → (n : ℕ) × (o ≡ refused n)
+not-by-number (value h) e = absurd (e refl)
+not-by-number (refused n) e = (n, refl)
+
+module _ (font : List ℕ) (start : ℕ) (coords : List ℤ) where
+  made-opened : Header → Opened
+  made-opened header = record { table = drop start font; coords = coords; header = header }
+
+  same-number : number (run (drop start font) headerAt) ≡ number (opened font start coords)
+  unfolding opened made-opened
+  same-number = number-onward (run (drop start font) headerAt) (λ header. made-opened header)
+
+  pub read-by-number : number (opened font start coords) ≡ 0 → (h : Header) × (run (drop start font) headerAt ≡ value h)
+  read-by-number e = by-number (run (drop start font) headerAt) (always-telling (drop start font) headerAt header-telling) (same-number ∙ e)
+
+  pub refused-by-number : (number (opened font start coords) ≡ 0 → ⊥) → (n : ℕ) × (run (drop start font) headerAt ≡ refused n)
+  refused-by-number e = not-by-number (run (drop start font) headerAt) (λ z. e (sym same-number ∙ z))

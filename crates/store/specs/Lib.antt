@@ -7,4 +7,6 @@ pub mod Metric
 pub mod MetricAnswers
 pub mod Mvar
 pub mod MvarAnswers
+pub mod MvarTags
+pub mod MvarDeltas
 pub mod Footprint

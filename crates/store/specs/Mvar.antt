@@ -6,11 +6,10 @@ use mathlib.Core.List.{List, []}
 use lib.ListN.{drop}
 use lib.Dec.{ltb, eqb}
 use lib.IntN.{ℤ}
-use lib.Ieee.{Float}
 use Rattle.readers.specs.Outcome.{Outcome, value, onward}
 use Rattle.readers.specs.Reading.{Reading, answer, refuse, _>>=_, _>>_, check, unsignedAt, run}
 use Rattle.store.specs.Item.{deltaIn}
-use Rattle.store.specs.Metric.{DeltaSetIndex, floatOf}
+use Rattle.store.specs.Metric.{DeltaSetIndex}
 
 -- The numbers of the header.
 pub record Header : Type 0 where
@@ -65,10 +64,6 @@ unfoldable pub mvarDelta : List ℕ → ℕ → ℕ → List ℤ → Outcome ℤ
 mvarDelta font start tag coords = run (drop start font) do
   header ← headerAt
   tagDelta header coords tag
-
--- The same by the numbers of a header, whatever they are, as a float.
-abbrev pub headerDelta : List ℕ → ℕ → Header → List ℤ → ℕ → Float
-headerDelta font start header coords tag = floatOf (run (drop start font) (tagDelta header coords tag))
 
 -- An opened MVAR keeps the font part and the coordinate list together.
 pub record Opened : Type 0 where

@@ -2,5 +2,6 @@
 pub mod item;
 pub mod metric;
 pub mod mvar;
+pub mod mvar_deltas;
 pub mod mvar_tags;
 mod region;

@@ -1,6 +1,9 @@
 // MVAR: deltas of a font's measures, by tag.
 use crate::item::item_delta;
 use crate::metric::float_of;
+use crate::mvar_deltas::MeasureDeltas;
+use crate::mvar_deltas::Wanted;
+use crate::mvar_deltas::tag_deltas;
 use readers::FixedAnswer;
 use readers::Half;
 use readers::Refusal;
@@ -15,9 +18,9 @@ ghost use lib.ListN.{drop};
 ghost use Rattle.readers.specs.Outcome.{valueOr, number as numberIn};
 ghost use Rattle.readers.specs.Reading.{run};
 ghost use Rattle.readers.specs.Answers.{outcomeFixed};
-ghost use Rattle.store.specs.Metric.{floatOf};
-ghost use Rattle.store.specs.Mvar.{headerAt, find, tagDelta, mvarDelta, headerDelta, noHeader, opened, noMvar, openedDelta};
-ghost use Rattle.store.specs.MvarAnswers.{headerOf, numbersOf, headerOutcome, foundOutcome, openedOf, liesAt};
+ghost use Rattle.store.specs.Mvar.{headerAt, find, mvarDelta, noHeader, opened, noMvar, openedDelta};
+ghost use Rattle.store.specs.MvarAnswers.{headerOf, numbersOf, headerOutcome, foundOutcome, openedAs, openedOf, openedFloat, liesAt};
+ghost use Rattle.store.specs.MvarDeltas.{deltasOf, wantedBy};
 
 // The numbers of the header.
 pub struct Header {
@@ -101,7 +104,7 @@ fn tag_delta<'a>(
     rec_count: u16,
     store: u16,
 ) -> FixedAnswer
-    ensures { λ r. ⌜ outcomeFixed r ≡ run (now («data» .entry)) (tagDelta (headerOf «rec_size» «rec_count» store) (now (coords .entry)) tag) ⌝ }
+    ensures { λ r. ⌜ outcomeFixed r ≡ openedDelta (openedAs (now («data» .entry)) (now (coords .entry)) «rec_size» «rec_count» store) tag ⌝ }
 {
     let at = match find(data, rec_size, rec_count, tag) {
         Found::At(at) => at,
@@ -118,7 +121,7 @@ fn tag_delta<'a>(
     item_delta(data, store as u32, outer as u32, inner, coords)
 }
 
-fn tag_float<'a>(
+pub(crate) fn tag_float<'a>(
     tag: u32,
     data: &'a [u8],
     coords: &'a [i16],
@@ -126,7 +129,7 @@ fn tag_float<'a>(
     rec_count: u16,
     store: u16,
 ) -> f32
-    ensures { λ r. ⌜ r ≡ floatOf (run (now («data» .entry)) (tagDelta (headerOf «rec_size» «rec_count» store) (now (coords .entry)) tag)) ⌝ }
+    ensures { λ r. ⌜ r ≡ openedFloat (openedAs (now («data» .entry)) (now (coords .entry)) «rec_size» «rec_count» store) tag ⌝ }
 {
     float_of(tag_delta(tag, data, coords, rec_size, rec_count, store))
 }
@@ -164,19 +167,6 @@ pub fn mvar_delta<'a>(font: &'a [u8], mvar: u32, tag: u32, coords: &'a [i16]) ->
     let rec_count = h.rec_count;
     let store = h.store;
     tag_delta(tag, part, coords, rec_size, rec_count, store)
-}
-
-impl Header {
-    // The delta of a tag as a float, 0.0 on any refusal, by the MVAR at an offset of the font, whatever numbers the header holds: for one who asks for many tags and holds no slice.
-    pub fn delta<'a>(self, font: &'a [u8], mvar: u32, tag: u32, coords: &'a [i16]) -> f32
-        ensures { λ r. ⌜ r ≡ headerDelta (now (font .entry)) mvar (numbersOf self) (now (coords .entry)) tag ⌝ }
-    {
-        let part = part_from(font, mvar);
-        let rec_size = self.rec_size;
-        let rec_count = self.rec_count;
-        let store = self.store;
-        tag_float(tag, part, coords, rec_size, rec_count, store)
-    }
 }
 
 // The part of an MVAR that opens, with the number of its refusal beside it, 0 for none; refused, the part is empty.
@@ -265,10 +255,24 @@ impl<'a> Mvar<'a> {
 
     // The same as a float: 0.0 on any refusal.
     pub fn delta(self, tag: u32) -> f32
-        ensures { λ r. ⌜ r ≡ floatOf (openedDelta (openedOf (self .entry)) tag) ⌝ }
+        ensures { λ r. ⌜ r ≡ openedFloat (openedOf (self .entry)) tag ⌝ }
     {
         tag_float(
             tag,
+            self.data,
+            self.coords,
+            self.rec_size,
+            self.rec_count,
+            self.store,
+        )
+    }
+
+    // The deltas that shift a font's measures.
+    pub fn deltas(self, wanted: Wanted) -> MeasureDeltas
+        ensures { λ r. ⌜ deltasOf r ≡ wantedBy wanted (openedFloat (openedOf (self .entry))) ⌝ }
+    {
+        tag_deltas(
+            wanted,
             self.data,
             self.coords,
             self.rec_size,

@@ -1,11 +1,10 @@
 -- `metrics::measures::shifted` meets its contract. Assumes nothing.
 use mathlib.Core.Path.{ap, sym, _∙_}
 use borrow.Author.Needs.{needs}
-use Rattle.store.specs.MvarAnswers.{numbersOf}
-use Rattle.store.specs.Mvar.{headerDelta}
+use Rattle.store.specs.MvarDeltas.{deltasOf}
 use Rattle.metrics.proofs.Varying.{two-steps}
 use Rattle.metrics.specs.Measures.{each, shift}
-use Rattle.metrics.specs.Structs.{metricsOf, shiftVertical}
+use Rattle.metrics.specs.Structs.{metricsOf, shiftVertical, tagged}
 use Rattle.metrics.proofs.measures.shifted.Statement.{statement}
 use Rattle.metrics.proofs.measures.shifted.Tie as tie
 
@@ -17,8 +16,8 @@ shifted-vertically-requires c κs = search needs
 
 returns : tie.Need-returns
 returns c =
-    let a = c .before .before .before .before .args in
-    let delta = headerDelta (a .font .now) (a .mvar) (numbersOf (a .header)) (a .coords .now) in
+    let a = c .before .before .before .args in
+    let delta = tagged (deltasOf (a .d)) in
     c .shifted-vertically .ensures
     ∙ ap (each (shiftVertical delta)) (c .before .before .shifted-always .ensures)
     ∙ two-steps delta (metricsOf (a .unvaried))
@@ -26,8 +25,8 @@ returns c =
 
 returns-2 : tie.Need-returns-2
 returns-2 c =
-    let a = c .before .before .before .args in
-    let delta = headerDelta (a .font .now) (a .mvar) (numbersOf (a .header)) (a .coords .now) in
+    let a = c .before .before .args in
+    let delta = tagged (deltasOf (a .d)) in
     c .before .shifted-always .ensures ∙ ap (λ vertical. each (shift vertical delta) (metricsOf (a .unvaried))) (sym (c .if1 .left))
 
 pub shifted-spec : {M : Type 1} → statement M

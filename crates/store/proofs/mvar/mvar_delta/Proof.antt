@@ -1,7 +1,7 @@
 -- `store::mvar::mvar_delta` meets its contract. Assumes nothing.
 use mathlib.Core.Path.{refl}
 use Rattle.readers.proofs.Reading.{took-by, stop-by}
-use Rattle.store.specs.Mvar.{headerAt, mvarDelta}
+use Rattle.store.specs.Mvar.{headerAt, mvarDelta, openedDelta}
 use Rattle.store.specs.MvarAnswers.{headerOutcome}
 use borrow.Author.Needs.{needs}
 use Rattle.store.proofs.mvar.mvar_delta.Statement.{statement}
@@ -29,7 +29,7 @@ tag-delta-requires : tie.Need-tag-delta-requires
 tag-delta-requires c κs = search needs
 
 returns-2 : tie.Need-returns-2
-unfolding mvarDelta
+unfolding mvarDelta openedDelta
 returns-2 c =
     let part = c .before .before .before .before .before .part-from .ensures .0 in
     let told = rw part at (c .before .before .before .before .header-at .ensures) in

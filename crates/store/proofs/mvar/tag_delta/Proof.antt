@@ -4,7 +4,7 @@ use mathlib.Core.Path.{refl}
 use native.Mathlib.Omega.{arith}
 use Rattle.readers.proofs.Reading.{took-by, stop-by}
 use Rattle.store.specs.Item.{itemDelta}
-use Rattle.store.specs.Mvar.{find, tagDelta}
+use Rattle.store.specs.Mvar.{find, tagDelta, openedDelta}
 use Rattle.store.specs.MvarAnswers.{foundOutcome}
 use Rattle.store.proofs.Search.{found-small}
 use Rattle.store.proofs.Records.{inner-stops, outer-stops, both-took}
@@ -28,7 +28,7 @@ enum-known-n : tie.Need-enum-known-n
 enum-known-n c = search needs
 
 returns : tie.Need-returns
-unfolding tagDelta find
+unfolding tagDelta find openedDelta
 returns c = stop-by foundOutcome _ _ _ (c .before .before .before .find .ensures) (c .before .n .given .1) refl
 
 add-u16-at : tie.Need-add-u16-at
@@ -44,7 +44,7 @@ enum-known-n-2 : tie.Need-enum-known-n-2
 enum-known-n-2 c = search needs
 
 returns-2 : tie.Need-returns-2
-unfolding tagDelta find
+unfolding tagDelta find openedDelta
 returns-2 c =
     let found = c .before .before .before .before .before .before .before .find .ensures in
     let case = c .before .before .before .before .before .at .given .1 in
@@ -63,7 +63,7 @@ enum-known-n-3 : tie.Need-enum-known-n-3
 enum-known-n-3 c = search needs
 
 returns-3 : tie.Need-returns-3
-unfolding tagDelta find
+unfolding tagDelta find openedDelta
 returns-3 c =
     let found = c .before .before .before .before .before .before .before .before .before .before .before .find .ensures in
     let case = c .before .before .before .before .before .before .before .before .before .at .given .1 in
@@ -78,7 +78,7 @@ item-delta-requires : tie.Need-item-delta-requires
 item-delta-requires c κs = search needs
 
 returns-4 : tie.Need-returns-4
-unfolding tagDelta find itemDelta
+unfolding tagDelta find itemDelta openedDelta
 returns-4 c =
     let found = c .before .before .before .before .before .before .before .before .before .before .before .before .find .ensures in
     let case = c .before .before .before .before .before .before .before .before .before .before .at .given .1 in

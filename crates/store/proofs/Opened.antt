@@ -89,7 +89,7 @@ module _ (font : RefT (List ℕ)) (start : ℕ) (coords : RefT (List ℤ)) (part
   )
 
 -- Once its header is read, a tag has the delta that the header's numbers lead to.
-pub header-answers : (font : List ℕ) (start : ℕ) (coords : List ℤ) (tag : ℕ) (h : Header) → run (drop start font) headerAt ≡ value h
+header-answers : (font : List ℕ) (start : ℕ) (coords : List ℤ) (tag : ℕ) (h : Header) → run (drop start font) headerAt ≡ value h
     → run (drop start font) (tagDelta h coords tag) ≡ mvarDelta font start tag coords
 unfolding mvarDelta
 header-answers font start coords tag h e = rw (run-bind (drop start font) headerAt (λ header. tagDelta header coords tag), e)

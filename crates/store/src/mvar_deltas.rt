@@ -2,9 +2,7 @@
 use crate::mvar::tag_float;
 use crate::mvar_tags::*;
 ghost use mathlib.Core.Path.{_≡_};
-ghost use mathlib.Core.Bool.{true, false};
-ghost use Rattle.store.specs.Metric.{floatOf};
-ghost use Rattle.store.specs.Mvar.{openedDelta};
+ghost use mathlib.Core.Bool.{false};
 ghost use Rattle.store.specs.MvarAnswers.{openedAs, openedFloat};
 ghost use Rattle.store.specs.MvarDeltas.{deltasBy, deltasOf, wantedBy, withHorizontal, withVertical};
 

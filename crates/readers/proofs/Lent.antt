@@ -41,12 +41,6 @@ module _ {A : Type 0} (f : ℕ → A) where
       go true e ih = rw (eqb-true i n e) (getD-set-same (fill f n l) n (f n) d (omega (arith, fill-length n l, eqb-true i n e)))
       go false e ih = getD-set-other (fill f n l) n i (f n) d (eqb-false i n e) ∙ ih (omega (arith, eqb-false i n e))
 
-  -- The elements from n on stay.
-  pub fill-beyond : (n : ℕ) (l : List A) (i : ℕ) (d : A) → n ≤ i → getD (fill f n l) i d ≡ getD l i d
-  unfolding fill
-  fill-beyond zero l i d h = refl
-  fill-beyond (suc n) l i d h = getD-set-other (fill f n l) n i (f n) d (λ e. omega arith) ∙ fill-beyond n l i d (omega arith)
-
 -- Functions that agree below n fill alike.
 pub fill-same : {A : Type 0} (f g : ℕ → A) (n : ℕ) (l : List A) → ((i : ℕ) → i < n → f i ≡ g i) → fill f n l ≡ fill g n l
 unfolding fill

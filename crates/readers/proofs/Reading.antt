@@ -122,8 +122,6 @@ pub ruleset bytes = (took8, stop8)
 
 pub ruleset unsigned = (took16, stop16, took32, stop32)
 
-pub ruleset signed = (tookI16, stopI16)
-
 pub ruleset numbers = (tookF2Dot14, stopF2Dot14, tookFixed, stopFixed)
 
 pub ruleset ends = (answered, declined)

@@ -4,6 +4,7 @@ use mathlib.Core.Path.{_≡_, refl, ap, sym, _∙_}
 use mathlib.Core.Bool.{cond}
 use lib.Dec.{eqb}
 use lib.IntN.{ℤ}
+use Rattle.numbers.specs.One.{One}
 use Rattle.readers.specs.Outcome.{Outcome, value, refused}
 use Rattle.readers.specs.Answers.{numberOf, outcome8, outcome16, outcome32, outcomeI16, outcomeF2Dot14, outcomeFixed}
 use Rattle.readers.specs.declared.Refusal.{Refusal}
@@ -99,29 +100,29 @@ backFixed (F.Refused n) = ap F.Refused (refusal-back n)
 pub oneFixed : {d : Outcome ℤ} {r r′ : FixedAnswer} → outcomeFixed r ≡ d → outcomeFixed r′ ≡ d → r ≡ r′
 oneFixed p q = one-by outcomeFixed (λ z. F.Value (record { 0 = z })) F.Refused backFixed p q
 
-pub number-one : (κs : _) (a : _) (r r′ : _) (s s′ : _) → number.Post κs a r s → number.Post κs a r′ s′ → r ≡ r′
+pub number-one : One number.Post
 number-one κs a r r′ s s′ p q = p ∙ sym q
 
-pub u8-at-one : (κs : _) (a : _) (r r′ : _) (s s′ : _) → u8-at.Post κs a r s → u8-at.Post κs a r′ s′ → r ≡ r′
+pub u8-at-one : One u8-at.Post
 u8-at-one κs a r r′ s s′ p q = one8 p q
 
-pub u16-at-one : (κs : _) (a : _) (r r′ : _) (s s′ : _) → u16-at.Post κs a r s → u16-at.Post κs a r′ s′ → r ≡ r′
+pub u16-at-one : One u16-at.Post
 u16-at-one κs a r r′ s s′ p q = one16 p q
 
-pub u24-at-one : (κs : _) (a : _) (r r′ : _) (s s′ : _) → u24-at.Post κs a r s → u24-at.Post κs a r′ s′ → r ≡ r′
+pub u24-at-one : One u24-at.Post
 u24-at-one κs a r r′ s s′ p q = one32 p q
 
-pub u32-at-one : (κs : _) (a : _) (r r′ : _) (s s′ : _) → u32-at.Post κs a r s → u32-at.Post κs a r′ s′ → r ≡ r′
+pub u32-at-one : One u32-at.Post
 u32-at-one κs a r r′ s s′ p q = one32 p q
 
-pub i8-at-one : (κs : _) (a : _) (r r′ : _) (s s′ : _) → i8-at.Post κs a r s → i8-at.Post κs a r′ s′ → r ≡ r′
+pub i8-at-one : One i8-at.Post
 i8-at-one κs a r r′ s s′ p q = oneI16 p q
 
-pub i16-at-one : (κs : _) (a : _) (r r′ : _) (s s′ : _) → i16-at.Post κs a r s → i16-at.Post κs a r′ s′ → r ≡ r′
+pub i16-at-one : One i16-at.Post
 i16-at-one κs a r r′ s s′ p q = oneI16 p q
 
-pub f2dot14-at-one : (κs : _) (a : _) (r r′ : _) (s s′ : _) → f2dot14-at.Post κs a r s → f2dot14-at.Post κs a r′ s′ → r ≡ r′
+pub f2dot14-at-one : One f2dot14-at.Post
 f2dot14-at-one κs a r r′ s s′ p q = oneF2Dot14 p q
 
-pub fixed-at-one : (κs : _) (a : _) (r r′ : _) (s s′ : _) → fixed-at.Post κs a r s → fixed-at.Post κs a r′ s′ → r ≡ r′
+pub fixed-at-one : One fixed-at.Post
 fixed-at-one κs a r r′ s s′ p q = oneFixed p q

@@ -1,7 +1,11 @@
 -- No second answer: for each public function of `fvar`, two answers that its contract allows are the same, and so is what it leaves in a lent list. Assumes nothing.
-use Prim.Native.Nat.{_<_}
+use Prim.Native.Nat.{ℕ, _<_}
 use mathlib.Core.Path.{_≡_, refl, ap, sym, _∙_}
+use mathlib.Core.List.{List, [], _∷_}
+use mathlib.Core.Option.{Option, none, some}
+use native.Mathlib.Omega.{arith}
 use lib.ListN.{length}
+use Rattle.numbers.specs.One.{One, OneSeen, _and_}
 use Rattle.readers.specs.Outcome.{Outcome}
 use Rattle.readers.proofs.One.{refusal-back, back, one-by, one16, oneFixed}
 use Rattle.axes.specs.Axis.{Axis}
@@ -75,37 +79,42 @@ backInstance (I.Refused n) = ap I.Refused (refusal-back n)
 pub oneInstance : {d : Outcome Instance} {r r′ : InstanceAnswer} → instanceOutcome r ≡ d → instanceOutcome r′ ≡ d → r ≡ r′
 oneInstance p q = one-by instanceOutcome (λ v. I.Value (varInstance v)) I.Refused backInstance p q
 
-pub new-one : (κs : _) (a : _) (r r′ : _) (s s′ : _) → new.Post κs a r s → new.Post κs a r′ s′ → r ≡ r′
+pub new-one : One new.Post
 new-one κs a r r′ s s′ p q = oneHeader p q
 
-pub get-axis-one : (κs : _) (a : _) (r r′ : _) (s s′ : _) → get-axis.Post κs a r s → get-axis.Post κs a r′ s′ → r ≡ r′
+pub get-axis-one : One get-axis.Post
 get-axis-one κs a r r′ s s′ p q = oneAxis p q
 
-pub get-axis-by-tag-one : (κs : _) (a : _) (r r′ : _) (s s′ : _) → get-axis-by-tag.Post κs a r s → get-axis-by-tag.Post κs a r′ s′ → r ≡ r′
+pub get-axis-by-tag-one : One get-axis-by-tag.Post
 get-axis-by-tag-one κs a r r′ s s′ p q = oneAxis p q
 
-pub find-by-tag-one : (κs : _) (a : _) (r r′ : _) (s s′ : _) → find-by-tag.Post κs a r s → find-by-tag.Post κs a r′ s′ → r ≡ r′
+pub find-by-tag-one : One find-by-tag.Post
 find-by-tag-one κs a r r′ s s′ p q = oneAxis p q
 
-pub get-instance-one : (κs : _) (a : _) (r r′ : _) (s s′ : _) → get-instance.Post κs a r s → get-instance.Post κs a r′ s′ → r ≡ r′
+pub get-instance-one : One get-instance.Post
 get-instance-one κs a r r′ s s′ p q = oneInstance p q
 
-pub instance-value-one : (κs : _) (a : _) (r r′ : _) (s s′ : _) → instance-value.Post κs a r s → instance-value.Post κs a r′ s′ → r ≡ r′
+pub instance-value-one : One instance-value.Post
 instance-value-one κs a r r′ s s′ p q = oneFixed p q
 
--- Of a part: what it holds, the number beside it, and its place unless it is empty.
-pub instance-values-one : (κs : _) (a : _) (r r′ : _) (s s′ : _) → instance-values.Post κs a r s → instance-values.Post κs a r′ s′
-    → (r .now ≡ r′ .now) × (s .1 .1 .1 .0 .now ≡ s′ .1 .1 .1 .0 .now) × (0 < length (r .now) → r .ptr ≡ r′ .ptr)
-instance-values-one κs a r r′ s s′ p q =
-    let same : r .now ≡ r′ .now = p .0 ∙ sym (q .0) in (
-      same,
-      p .1 .0 ∙ sym (q .1 .0),
-      λ h.
-          let at = p .1 .1 h in
-          let at′ = q .1 .1 (rw same at h) in
-          λ i. ((at .0 ∙ sym (at′ .0)) i, (at .1 ∙ sym (at′ .1)) i),
-    )
+-- Where a part lies; an empty one, wherever it is, counts as nowhere (`docs/EXCEPTIONS.md`).
+abbrev pub placed : {X : Type 0} → List X → ℕ × ℕ → Option (ℕ × ℕ)
+placed [] p = none
+placed (x ∷ xs) p = some p
 
-pub instance-floats-one : (κs : _) (a : _) (r r′ : _) (s s′ : _) → instance-floats.Post κs a r s → instance-floats.Post κs a r′ s′
-    → (r ≡ r′) × (s .1 .1 .1 .0 .now ≡ s′ .1 .1 .1 .0 .now)
-instance-floats-one κs a r r′ s s′ p q = (one16 (p .0) (q .0), p .1 ∙ sym (q .1))
+same-place : {X : Type 0} (l l′ : List X) (p p′ : ℕ × ℕ) (b n : ℕ) → l ≡ l′ → (0 < length l → (p .0 ≡ b) × (p .1 ≡ n)) → (0 < length l′ → (p′ .0 ≡ b) × (p′ .1 ≡ n)) → placed l p ≡ placed l′ p′
+same-place [] l′ p p′ b n e h k = rw (← e)
+same-place (x ∷ xs) l′ p p′ b n e h k =
+    let at = h (omega arith) in
+    let at′ = (rw (← e) at k) (omega arith) in
+    rw (← e) (λ i. some ((at .0 ∙ sym (at′ .0)) i, (at .1 ∙ sym (at′ .1)) i))
+
+-- Of a part: what it holds, where it lies, and the number beside it.
+pub instance-values-one : OneSeen instance-values.Post (λ r s. r .now and placed (r .now) (r .ptr) and s .1 .1 .1 .0 .now)
+instance-values-one κs a r r′ s s′ p q =
+    let same : r .now ≡ r′ .now = p .0 ∙ sym (q .0) in
+    let place = same-place (r .now) (r′ .now) (r .ptr) (r′ .ptr) _ _ same (p .1 .1) (q .1 .1) in
+    cc
+
+pub instance-floats-one : OneSeen instance-floats.Post (λ r s. r and s .1 .1 .1 .0 .now)
+instance-floats-one κs a r r′ s s′ p q = let same : r ≡ r′ = one16 (p .0) (q .0) in cc

@@ -1,5 +1,6 @@
 -- No second answer: for each public function of `glyph` and `vertical`, two answers that its contract allows are the same. Assumes nothing.
 use mathlib.Core.Path.{_≡_, refl, ap, sym, _∙_}
+use Rattle.numbers.specs.One.{One}
 use Rattle.readers.proofs.One.{one-back}
 use Rattle.metrics.specs.Vertical as Vertically
 use Rattle.metrics.specs.Vertical.{vmtxGlyf, vmtxVorg, synthesized}
@@ -61,35 +62,35 @@ glyphs-back m = ap (withEnum m) (enum-back (m .vertical))
 oneGlyphs : {m : Glyph.GlyphMetrics} {r r′ : GlyphMetrics} → glyphsOf r ≡ m → glyphsOf r′ ≡ m → r ≡ r′
 oneGlyphs p q = one-back glyphsOf structOf glyphs-back p q
 
-pub synthesize-one : (κs : _) (a : _) (r r′ : _) (s s′ : _) → synthesize.Post κs a r s → synthesize.Post κs a r′ s′ → r ≡ r′
+pub synthesize-one : One synthesize.Post
 synthesize-one κs a r r′ s s′ p q = one-back verticalOf enumOf enum-back p q
 
-pub materialize-glyph-metrics-one : (κs : _) (a : _) (r r′ : _) (s s′ : _) → materialize-glyph-metrics.Post κs a r s → materialize-glyph-metrics.Post κs a r′ s′ → r ≡ r′
+pub materialize-glyph-metrics-one : One materialize-glyph-metrics.Post
 materialize-glyph-metrics-one κs a r r′ s s′ p q = oneGlyphs p q
 
-pub has-vertical-metrics-one : (κs : _) (a : _) (r r′ : _) (s s′ : _) → has-vertical-metrics.Post κs a r s → has-vertical-metrics.Post κs a r′ s′ → r ≡ r′
+pub has-vertical-metrics-one : One has-vertical-metrics.Post
 has-vertical-metrics-one κs a r r′ s s′ p q = p ∙ sym q
 
-pub has-variations-one : (κs : _) (a : _) (r r′ : _) (s s′ : _) → has-variations.Post κs a r s → has-variations.Post κs a r′ s′ → r ≡ r′
+pub has-variations-one : One has-variations.Post
 has-variations-one κs a r r′ s s′ p q = p ∙ sym q
 
-pub scale-one : (κs : _) (a : _) (r r′ : _) (s s′ : _) → scale.Post κs a r s → scale.Post κs a r′ s′ → r ≡ r′
+pub scale-one : One scale.Post
 scale-one κs a r r′ s s′ p q = oneGlyphs p q
 
-pub linear-scale-one : (κs : _) (a : _) (r r′ : _) (s s′ : _) → linear-scale.Post κs a r s → linear-scale.Post κs a r′ s′ → r ≡ r′
+pub linear-scale-one : One linear-scale.Post
 linear-scale-one κs a r r′ s s′ p q = oneGlyphs p q
 
-pub advance-width-one : (κs : _) (a : _) (r r′ : _) (s s′ : _) → advance-width.Post κs a r s → advance-width.Post κs a r′ s′ → r ≡ r′
+pub advance-width-one : One advance-width.Post
 advance-width-one κs a r r′ s s′ p q = p ∙ sym q
 
-pub lsb-one : (κs : _) (a : _) (r r′ : _) (s s′ : _) → lsb.Post κs a r s → lsb.Post κs a r′ s′ → r ≡ r′
+pub lsb-one : One lsb.Post
 lsb-one κs a r r′ s s′ p q = p ∙ sym q
 
-pub advance-height-one : (κs : _) (a : _) (r r′ : _) (s s′ : _) → advance-height.Post κs a r s → advance-height.Post κs a r′ s′ → r ≡ r′
+pub advance-height-one : One advance-height.Post
 advance-height-one κs a r r′ s s′ p q = p ∙ sym q
 
-pub tsb-one : (κs : _) (a : _) (r r′ : _) (s s′ : _) → tsb.Post κs a r s → tsb.Post κs a r′ s′ → r ≡ r′
+pub tsb-one : One tsb.Post
 tsb-one κs a r r′ s s′ p q = p ∙ sym q
 
-pub vertical-origin-one : (κs : _) (a : _) (r r′ : _) (s s′ : _) → vertical-origin.Post κs a r s → vertical-origin.Post κs a r′ s′ → r ≡ r′
+pub vertical-origin-one : One vertical-origin.Post
 vertical-origin-one κs a r r′ s s′ p q = p ∙ sym q

@@ -1,5 +1,6 @@
 -- No second answer: for each public function of `measures`, two answers that its contract allows are the same. Assumes nothing.
 use mathlib.Core.Path.{_≡_, refl}
+use Rattle.numbers.specs.One.{One}
 use Rattle.readers.proofs.One.{one-back}
 use Rattle.metrics.specs.Measures as Measures
 use Rattle.metrics.specs.Structs.{metricsOf}
@@ -34,11 +35,11 @@ oneMetrics : {m : Measures.Metrics} {r r′ : Metrics} → metricsOf r ≡ m →
 unfolding structOf
 oneMetrics p q = one-back metricsOf structOf (λ r. refl) p q
 
-pub materialize-metrics-one : (κs : _) (a : _) (r r′ : _) (s s′ : _) → materialize-metrics.Post κs a r s → materialize-metrics.Post κs a r′ s′ → r ≡ r′
+pub materialize-metrics-one : One materialize-metrics.Post
 materialize-metrics-one κs a r r′ s s′ p q = oneMetrics p q
 
-pub scale-one : (κs : _) (a : _) (r r′ : _) (s s′ : _) → scale.Post κs a r s → scale.Post κs a r′ s′ → r ≡ r′
+pub scale-one : One scale.Post
 scale-one κs a r r′ s s′ p q = oneMetrics p q
 
-pub linear-scale-one : (κs : _) (a : _) (r r′ : _) (s s′ : _) → linear-scale.Post κs a r s → linear-scale.Post κs a r′ s′ → r ≡ r′
+pub linear-scale-one : One linear-scale.Post
 linear-scale-one κs a r r′ s s′ p q = oneMetrics p q

@@ -1,5 +1,6 @@
 -- No second answer: for each public function of `metric`, two answers that its contract allows are the same. Assumes nothing.
-use mathlib.Core.Path.{_≡_, sym, _∙_}
+use mathlib.Core.Path.{sym, _∙_}
+use Rattle.numbers.specs.One.{One}
 use Rattle.readers.proofs.One.{oneFixed}
 use Rattle.store.proofs.metric.metric_delta.Reads as metric-delta
 use Rattle.store.proofs.metric.float_of.Reads as float-of
@@ -8,20 +9,20 @@ use Rattle.store.proofs.metric.advance_delta.Reads as advance-delta
 use Rattle.store.proofs.metric.sb_delta_fixed.Reads as sb-delta-fixed
 use Rattle.store.proofs.metric.sb_delta.Reads as sb-delta
 
-pub metric-delta-one : (κs : _) (a : _) (r r′ : _) (s s′ : _) → metric-delta.Post κs a r s → metric-delta.Post κs a r′ s′ → r ≡ r′
+pub metric-delta-one : One metric-delta.Post
 metric-delta-one κs a r r′ s s′ p q = oneFixed p q
 
-pub float-of-one : (κs : _) (a : _) (r r′ : _) (s s′ : _) → float-of.Post κs a r s → float-of.Post κs a r′ s′ → r ≡ r′
+pub float-of-one : One float-of.Post
 float-of-one κs a r r′ s s′ p q = p ∙ sym q
 
-pub advance-delta-fixed-one : (κs : _) (a : _) (r r′ : _) (s s′ : _) → advance-delta-fixed.Post κs a r s → advance-delta-fixed.Post κs a r′ s′ → r ≡ r′
+pub advance-delta-fixed-one : One advance-delta-fixed.Post
 advance-delta-fixed-one κs a r r′ s s′ p q = oneFixed p q
 
-pub advance-delta-one : (κs : _) (a : _) (r r′ : _) (s s′ : _) → advance-delta.Post κs a r s → advance-delta.Post κs a r′ s′ → r ≡ r′
+pub advance-delta-one : One advance-delta.Post
 advance-delta-one κs a r r′ s s′ p q = p ∙ sym q
 
-pub sb-delta-fixed-one : (κs : _) (a : _) (r r′ : _) (s s′ : _) → sb-delta-fixed.Post κs a r s → sb-delta-fixed.Post κs a r′ s′ → r ≡ r′
+pub sb-delta-fixed-one : One sb-delta-fixed.Post
 sb-delta-fixed-one κs a r r′ s s′ p q = oneFixed p q
 
-pub sb-delta-one : (κs : _) (a : _) (r r′ : _) (s s′ : _) → sb-delta.Post κs a r s → sb-delta.Post κs a r′ s′ → r ≡ r′
+pub sb-delta-one : One sb-delta.Post
 sb-delta-one κs a r r′ s s′ p q = p ∙ sym q

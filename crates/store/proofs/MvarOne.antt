@@ -1,5 +1,6 @@
 -- No second answer: for each plain public function of `mvar`, two answers that its contract allows are the same. Assumes nothing.
 use mathlib.Core.Path.{_≡_, refl, ap}
+use Rattle.numbers.specs.One.{One}
 use Rattle.readers.proofs.One.{refusal-back, back, one-by, oneFixed}
 use Rattle.store.specs.Mvar.{Header}
 use Rattle.store.specs.MvarAnswers.{headerOutcome}
@@ -16,8 +17,8 @@ header-back : (r : HeaderAnswer) → back headed H.Refused (headerOutcome r) ≡
 header-back (H.Value h) = refl
 header-back (H.Refused n) = ap H.Refused (refusal-back n)
 
-pub mvar-header-one : (κs : _) (a : _) (r r′ : _) (s s′ : _) → mvar-header.Post κs a r s → mvar-header.Post κs a r′ s′ → r ≡ r′
+pub mvar-header-one : One mvar-header.Post
 mvar-header-one κs a r r′ s s′ p q = one-by headerOutcome headed H.Refused header-back p q
 
-pub mvar-delta-one : (κs : _) (a : _) (r r′ : _) (s s′ : _) → mvar-delta.Post κs a r s → mvar-delta.Post κs a r′ s′ → r ≡ r′
+pub mvar-delta-one : One mvar-delta.Post
 mvar-delta-one κs a r r′ s s′ p q = oneFixed p q

@@ -2,6 +2,7 @@
 use Prim.Native.Nat.{ℕ}
 use mathlib.Core.Path.{_≡_, refl, ap, sym, _∙_}
 use mathlib.Core.Option.{Option, none, some}
+use Rattle.numbers.specs.One.{One}
 use Rattle.numerals.specs.Parse.{said, saidPlace}
 use Rattle.numerals.specs.declared.Parsed.{Parsed}
 use Rattle.numerals.specs.declared.Parsed.the-variants as N
@@ -38,20 +39,20 @@ back-place P.Not = refl
 pub place-one : {d : Option ℕ} {r r′ : Place} → saidPlace r ≡ d → saidPlace r′ ≡ d → r ≡ r′
 place-one p q = one-by saidPlace P.Value P.Not back-place p q
 
-pub digit-one : (κs : _) (a : _) (r r′ : _) (s s′ : _) → digit.Post κs a r s → digit.Post κs a r′ s′ → r ≡ r′
+pub digit-one : One digit.Post
 digit-one κs a r r′ s s′ p q = p .0 ∙ sym (q .0)
 
-pub natural-one : (κs : _) (a : _) (r r′ : _) (s s′ : _) → natural.Post κs a r s → natural.Post κs a r′ s′ → r ≡ r′
+pub natural-one : One natural.Post
 natural-one κs a r r′ s s′ p q = parsed-one p q
 
-pub index-one : (κs : _) (a : _) (r r′ : _) (s s′ : _) → index.Post κs a r s → index.Post κs a r′ s′ → r ≡ r′
+pub index-one : One index.Post
 index-one κs a r r′ s s′ p q = place-one p q
 
-pub integer-one : (κs : _) (a : _) (r r′ : _) (s s′ : _) → integer.Post κs a r s → integer.Post κs a r′ s′ → r ≡ r′
+pub integer-one : One integer.Post
 integer-one κs a r r′ s s′ p q = parsed-one p q
 
-pub float-bits-one : (κs : _) (a : _) (r r′ : _) (s s′ : _) → float-bits.Post κs a r s → float-bits.Post κs a r′ s′ → r ≡ r′
+pub float-bits-one : One float-bits.Post
 float-bits-one κs a r r′ s s′ p q = parsed-one p q
 
-pub float-one : (κs : _) (a : _) (r r′ : _) (s s′ : _) → float.Post κs a r s → float.Post κs a r′ s′ → r ≡ r′
+pub float-one : One float.Post
 float-one κs a r r′ s s′ p q = p ∙ sym q

@@ -1,5 +1,6 @@
 -- No second answer: for each export two numbers that its contract allows are the same, and so is all that it writes. Assumes nothing.
-use mathlib.Core.Path.{_≡_, ap, sym, _∙_}
+use mathlib.Core.Path.{sym, _∙_}
+use Rattle.numbers.specs.One.{One, OneSeen, _and_}
 use Rattle.suolluvik.proofs.deltas.suolluvik_advance_delta_fixed.Reads as advance-delta-fixed
 use Rattle.suolluvik.proofs.deltas.suolluvik_advance_delta.Reads as advance-delta
 use Rattle.suolluvik.proofs.deltas.suolluvik_sb_delta_fixed.Reads as sb-delta-fixed
@@ -19,75 +20,56 @@ use Rattle.suolluvik.proofs.measures.suolluvik_materialize_metrics.Read
 use Rattle.suolluvik.proofs.measures.suolluvik_scale_metrics.Reads as scale-metrics
 use Rattle.suolluvik.proofs.measures.suolluvik_linear_scale_metrics.Reads as linear-scale-metrics
 
--- A number and the value beside it, both fixed.
-both : {A B : Type 0} {a a′ : A} {b b′ : B} {d : A × B} → (a, b) ≡ d → (a′, b′) ≡ d → (a ≡ a′) × (b ≡ b′)
-both {A} {B} p q = (ap (λ (x : A × B). x .0) (p ∙ sym q), ap (λ (x : A × B). x .1) (p ∙ sym q))
+pub advance-delta-fixed-one : OneSeen advance-delta-fixed.Post (λ r s. r and s .1 .1 .1 .1 .0 .now)
+advance-delta-fixed-one κs a r r′ s s′ p q = p ∙ sym q
 
-pub advance-delta-fixed-one : (κs : _) (a : _) (r r′ : _) (s s′ : _) → advance-delta-fixed.Post κs a r s → advance-delta-fixed.Post κs a r′ s′
-    → (r ≡ r′) × (s .1 .1 .1 .1 .0 .now ≡ s′ .1 .1 .1 .1 .0 .now)
-advance-delta-fixed-one κs a r r′ s s′ p q = both p q
+pub advance-delta-one : OneSeen advance-delta.Post (λ r s. r and s .1 .1 .1 .1 .0 .now)
+advance-delta-one κs a r r′ s s′ p q = p ∙ sym q
 
-pub advance-delta-one : (κs : _) (a : _) (r r′ : _) (s s′ : _) → advance-delta.Post κs a r s → advance-delta.Post κs a r′ s′
-    → (r ≡ r′) × (s .1 .1 .1 .1 .0 .now ≡ s′ .1 .1 .1 .1 .0 .now)
-advance-delta-one κs a r r′ s s′ p q = both p q
+pub sb-delta-fixed-one : OneSeen sb-delta-fixed.Post (λ r s. r and s .1 .1 .1 .1 .0 .now)
+sb-delta-fixed-one κs a r r′ s s′ p q = p ∙ sym q
 
-pub sb-delta-fixed-one : (κs : _) (a : _) (r r′ : _) (s s′ : _) → sb-delta-fixed.Post κs a r s → sb-delta-fixed.Post κs a r′ s′
-    → (r ≡ r′) × (s .1 .1 .1 .1 .0 .now ≡ s′ .1 .1 .1 .1 .0 .now)
-sb-delta-fixed-one κs a r r′ s s′ p q = both p q
+pub sb-delta-one : OneSeen sb-delta.Post (λ r s. r and s .1 .1 .1 .1 .0 .now)
+sb-delta-one κs a r r′ s s′ p q = p ∙ sym q
 
-pub sb-delta-one : (κs : _) (a : _) (r r′ : _) (s s′ : _) → sb-delta.Post κs a r s → sb-delta.Post κs a r′ s′
-    → (r ≡ r′) × (s .1 .1 .1 .1 .0 .now ≡ s′ .1 .1 .1 .1 .0 .now)
-sb-delta-one κs a r r′ s s′ p q = both p q
+pub mvar-delta-fixed-one : OneSeen mvar-delta-fixed.Post (λ r s. r and s .1 .1 .1 .1 .0 .now)
+mvar-delta-fixed-one κs a r r′ s s′ p q = p ∙ sym q
 
-pub mvar-delta-fixed-one : (κs : _) (a : _) (r r′ : _) (s s′ : _) → mvar-delta-fixed.Post κs a r s → mvar-delta-fixed.Post κs a r′ s′
-    → (r ≡ r′) × (s .1 .1 .1 .1 .0 .now ≡ s′ .1 .1 .1 .1 .0 .now)
-mvar-delta-fixed-one κs a r r′ s s′ p q = both p q
+pub mvar-delta-one : OneSeen mvar-delta.Post (λ r s. r and s .1 .1 .1 .1 .0 .now)
+mvar-delta-one κs a r r′ s s′ p q = p ∙ sym q
 
-pub mvar-delta-one : (κs : _) (a : _) (r r′ : _) (s s′ : _) → mvar-delta.Post κs a r s → mvar-delta.Post κs a r′ s′
-    → (r ≡ r′) × (s .1 .1 .1 .1 .0 .now ≡ s′ .1 .1 .1 .1 .0 .now)
-mvar-delta-one κs a r r′ s s′ p q = both p q
-
-pub axis-count-one : (κs : _) (a : _) (r r′ : _) (s s′ : _) → axis-count.Post κs a r s → axis-count.Post κs a r′ s′ → r ≡ r′
+pub axis-count-one : One axis-count.Post
 axis-count-one κs a r r′ s s′ p q = p ∙ sym q
 
-pub instance-count-one : (κs : _) (a : _) (r r′ : _) (s s′ : _) → instance-count.Post κs a r s → instance-count.Post κs a r′ s′ → r ≡ r′
+pub instance-count-one : One instance-count.Post
 instance-count-one κs a r r′ s s′ p q = p ∙ sym q
 
-pub fixed-to-f32-one : (κs : _) (a : _) (r r′ : _) (s s′ : _) → fixed-to-f32.Post κs a r s → fixed-to-f32.Post κs a r′ s′ → r ≡ r′
+pub fixed-to-f32-one : One fixed-to-f32.Post
 fixed-to-f32-one κs a r r′ s s′ p q = p ∙ sym q
 
-pub axis-one : (κs : _) (a : _) (r r′ : _) (s s′ : _) → axis.Post κs a r s → axis.Post κs a r′ s′
-    → (r ≡ r′) × (s .1 .1 .0 .now ≡ s′ .1 .1 .0 .now) × (s .1 .1 .1 .0 .now ≡ s′ .1 .1 .1 .0 .now) × (s .1 .1 .1 .1 .0 .now ≡ s′ .1 .1 .1 .1 .0 .now) × (s .1 .1 .1 .1 .1 .0 .now ≡ s′ .1 .1 .1 .1 .1 .0 .now) × (s .1 .1 .1 .1 .1 .1 .0 .now ≡ s′ .1 .1 .1 .1 .1 .1 .0 .now) × (s .1 .1 .1 .1 .1 .1 .1 .0 .now ≡ s′ .1 .1 .1 .1 .1 .1 .1 .0 .now)
-axis-one κs a r r′ s s′ p q = (p .0 ∙ sym (q .0), p .1 .0 ∙ sym (q .1 .0), p .1 .1 .0 ∙ sym (q .1 .1 .0), p .1 .1 .1 .0 ∙ sym (q .1 .1 .1 .0), p .1 .1 .1 .1 .0 ∙ sym (q .1 .1 .1 .1 .0), p .1 .1 .1 .1 .1 .0 ∙ sym (q .1 .1 .1 .1 .1 .0), p .1 .1 .1 .1 .1 .1 ∙ sym (q .1 .1 .1 .1 .1 .1))
+pub axis-one : OneSeen axis.Post (λ r s. r and s .1 .1 .0 .now and s .1 .1 .1 .0 .now and s .1 .1 .1 .1 .0 .now and s .1 .1 .1 .1 .1 .0 .now and s .1 .1 .1 .1 .1 .1 .0 .now and s .1 .1 .1 .1 .1 .1 .1 .0 .now)
+axis-one κs a r r′ s s′ p q = cc
 
-pub axis-by-tag-one : (κs : _) (a : _) (r r′ : _) (s s′ : _) → axis-by-tag.Post κs a r s → axis-by-tag.Post κs a r′ s′
-    → (r ≡ r′) × (s .1 .1 .0 .now ≡ s′ .1 .1 .0 .now) × (s .1 .1 .1 .0 .now ≡ s′ .1 .1 .1 .0 .now) × (s .1 .1 .1 .1 .0 .now ≡ s′ .1 .1 .1 .1 .0 .now) × (s .1 .1 .1 .1 .1 .0 .now ≡ s′ .1 .1 .1 .1 .1 .0 .now) × (s .1 .1 .1 .1 .1 .1 .0 .now ≡ s′ .1 .1 .1 .1 .1 .1 .0 .now) × (s .1 .1 .1 .1 .1 .1 .1 .0 .now ≡ s′ .1 .1 .1 .1 .1 .1 .1 .0 .now)
-axis-by-tag-one κs a r r′ s s′ p q = (p .0 ∙ sym (q .0), p .1 .0 ∙ sym (q .1 .0), p .1 .1 .0 ∙ sym (q .1 .1 .0), p .1 .1 .1 .0 ∙ sym (q .1 .1 .1 .0), p .1 .1 .1 .1 .0 ∙ sym (q .1 .1 .1 .1 .0), p .1 .1 .1 .1 .1 .0 ∙ sym (q .1 .1 .1 .1 .1 .0), p .1 .1 .1 .1 .1 .1 ∙ sym (q .1 .1 .1 .1 .1 .1))
+pub axis-by-tag-one : OneSeen axis-by-tag.Post (λ r s. r and s .1 .1 .0 .now and s .1 .1 .1 .0 .now and s .1 .1 .1 .1 .0 .now and s .1 .1 .1 .1 .1 .0 .now and s .1 .1 .1 .1 .1 .1 .0 .now and s .1 .1 .1 .1 .1 .1 .1 .0 .now)
+axis-by-tag-one κs a r r′ s s′ p q = cc
 
-pub instance-one : (κs : _) (a : _) (r r′ : _) (s s′ : _) → instance.Post κs a r s → instance.Post κs a r′ s′
-    → (r ≡ r′) × (s .1 .1 .0 .now ≡ s′ .1 .1 .0 .now) × (s .1 .1 .1 .0 .now ≡ s′ .1 .1 .1 .0 .now) × (s .1 .1 .1 .1 .0 .now ≡ s′ .1 .1 .1 .1 .0 .now)
-instance-one κs a r r′ s s′ p q = (p .0 ∙ sym (q .0), p .1 .0 ∙ sym (q .1 .0), p .1 .1 .0 ∙ sym (q .1 .1 .0), p .1 .1 .1 ∙ sym (q .1 .1 .1))
+pub instance-one : OneSeen instance.Post (λ r s. r and s .1 .1 .0 .now and s .1 .1 .1 .0 .now and s .1 .1 .1 .1 .0 .now)
+instance-one κs a r r′ s s′ p q = cc
 
-pub instance-floats-one : (κs : _) (a : _) (r r′ : _) (s s′ : _) → instance-floats.Post κs a r s → instance-floats.Post κs a r′ s′
-    → (r ≡ r′) × (s .1 .1 .1 .0 .now ≡ s′ .1 .1 .1 .0 .now) × (s .1 .1 .0 .now ≡ s′ .1 .1 .0 .now)
-instance-floats-one κs a r r′ s s′ p q = (both (p .0) (q .0) .0, both (p .0) (q .0) .1, p .1 ∙ sym (q .1))
+pub instance-floats-one : OneSeen instance-floats.Post (λ r s. (r and s .1 .1 .1 .0 .now) and s .1 .1 .0 .now)
+instance-floats-one κs a r r′ s s′ p q = cc
 
-pub normalized-coords-one : (κs : _) (a : _) (r r′ : _) (s s′ : _) → normalized-coords.Post κs a r s → normalized-coords.Post κs a r′ s′
-    → (r ≡ r′) × (s .1 .1 .1 .1 .1 .1 .0 .now ≡ s′ .1 .1 .1 .1 .1 .1 .0 .now) × (s .1 .1 .1 .1 .1 .0 .now ≡ s′ .1 .1 .1 .1 .1 .0 .now)
-normalized-coords-one κs a r r′ s s′ p q = (both (p .0) (q .0) .0, both (p .0) (q .0) .1, p .1 ∙ sym (q .1))
+pub normalized-coords-one : OneSeen normalized-coords.Post (λ r s. (r and s .1 .1 .1 .1 .1 .1 .0 .now) and s .1 .1 .1 .1 .1 .0 .now)
+normalized-coords-one κs a r r′ s s′ p q = cc
 
-pub instance-coords-one : (κs : _) (a : _) (r r′ : _) (s s′ : _) → instance-coords.Post κs a r s → instance-coords.Post κs a r′ s′
-    → (r ≡ r′) × (s .1 .1 .1 .1 .1 .0 .now ≡ s′ .1 .1 .1 .1 .1 .0 .now) × (s .1 .1 .1 .1 .0 .now ≡ s′ .1 .1 .1 .1 .0 .now)
-instance-coords-one κs a r r′ s s′ p q = (both (p .0) (q .0) .0, both (p .0) (q .0) .1, p .1 ∙ sym (q .1))
+pub instance-coords-one : OneSeen instance-coords.Post (λ r s. (r and s .1 .1 .1 .1 .1 .0 .now) and s .1 .1 .1 .1 .0 .now)
+instance-coords-one κs a r r′ s s′ p q = cc
 
-pub materialize-metrics-one : (κs : _) (a : _) (r r′ : _) (s s′ : _) → materialize-metrics.Post κs a r s → materialize-metrics.Post κs a r′ s′
-    → (r ≡ r′) × (s .1 .1 .1 .1 .0 .now ≡ s′ .1 .1 .1 .1 .0 .now)
-materialize-metrics-one κs a r r′ s s′ p q = (p .0 ∙ sym (q .0), p .1 ∙ sym (q .1))
+pub materialize-metrics-one : OneSeen materialize-metrics.Post (λ r s. r and s .1 .1 .1 .1 .0 .now)
+materialize-metrics-one κs a r r′ s s′ p q = cc
 
-pub scale-metrics-one : (κs : _) (a : _) (r r′ : _) (s s′ : _) → scale-metrics.Post κs a r s → scale-metrics.Post κs a r′ s′
-    → (r ≡ r′) × (s .1 .1 .0 .now ≡ s′ .1 .1 .0 .now)
-scale-metrics-one κs a r r′ s s′ p q = (p .0 ∙ sym (q .0), p .1 ∙ sym (q .1))
+pub scale-metrics-one : OneSeen scale-metrics.Post (λ r s. r and s .1 .1 .0 .now)
+scale-metrics-one κs a r r′ s s′ p q = cc
 
-pub linear-scale-metrics-one : (κs : _) (a : _) (r r′ : _) (s s′ : _) → linear-scale-metrics.Post κs a r s → linear-scale-metrics.Post κs a r′ s′
-    → (r ≡ r′) × (s .1 .0 .now ≡ s′ .1 .0 .now)
-linear-scale-metrics-one κs a r r′ s s′ p q = (p .0 ∙ sym (q .0), p .1 ∙ sym (q .1))
+pub linear-scale-metrics-one : OneSeen linear-scale-metrics.Post (λ r s. r and s .1 .0 .now)
+linear-scale-metrics-one κs a r r′ s s′ p q = cc

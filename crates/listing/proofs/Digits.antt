@@ -1,5 +1,5 @@
 -- How many digits there are, and a loop that writes them. Assumes nothing.
-use Prim.Native.Nat.{ℕ, zero, suc, _+_, _*_, _/_, _%_, _-_, _^_, _≤_, _<_}
+use Prim.Native.Nat.{ℕ, zero, suc, _+_, _/_, _%_, _-_, _^_, _≤_, _<_}
 use mathlib.Core.Path.{_≡_, refl, sym, ap, _∙_}
 use mathlib.Core.Bool.{Bool, true, false, not}
 use mathlib.Core.Logic.{_↔_}
@@ -81,24 +81,3 @@ short (suc t) (suc k) n h =
 pub places-short : (k n : ℕ) → n < 10 ^ suc k → places n ≤ suc k
 unfolding places
 places-short k n h = short n k n h
-
--- that many digits hold the number, and the first is not 0
-holds : (t n : ℕ) → n ≤ t → n < 10 ^ placesIn t (ltb n 10) n
-unfolding placesIn
-holds zero n p = omega arith
-holds (suc t) n p =
-    by-test (λ b. n < 10 ^ placesIn (suc t) b n) n
-    (λ a. omega arith)
-    (λ a. tenth (placesIn t (ltb (n / 10) 10) (n / 10)) n .0 (holds t (n / 10) (omega arith)))
-
-needed : (t n : ℕ) → 0 < n → 10 ^ placesIn t (ltb n 10) n ≤ 10 * n
-unfolding placesIn
-needed zero n p = omega arith
-needed (suc t) n p =
-    by-test (λ b. 10 ^ placesIn (suc t) b n ≤ 10 * n) n
-    (λ a. omega arith)
-    (λ a. rw (pow-suc 10 (placesIn t (ltb (n / 10) 10) (n / 10))) (omega (arith, needed t (n / 10) (omega arith))))
-
-pub places-right : (n : ℕ) → 0 < n → (n < 10 ^ places n) × (10 ^ places n ≤ 10 * n)
-unfolding places
-places-right n h = (holds n n (omega arith), needed n n h)

@@ -4,4 +4,5 @@ pub mod Table
 pub mod Numbers
 pub mod Readers
 pub mod Axes
+pub mod Avar
 pub mod Store

@@ -6,7 +6,7 @@ use Prim.Native.Nat.{ℕ}
 use lib.IntN.{pos}
 use lib.ListN.{drop}
 use Rattle.readers.specs.Outcome.{value, refused, number, valueOr}
-use Rattle.store.specs.Metric.{advance, bearing, metricDelta, floatOf}
+use Rattle.store.specs.Metric.{DeltaSetIndex, deltaSetIndexOf, advance, bearing, metricDelta, floatOf}
 use Rattle.store.specs.Mvar.{Header, Opened, opened, noMvar, openedDelta}
 use Rattle.store.specs.MvarAnswers.{openedFloat}
 use Rattle.store.specs.MvarTags.{hasc}
@@ -40,6 +40,16 @@ pub each-by-its-own-map :
     × (floatOf (metricDelta two-maps 4 bearing 0 []) ≡ float 0x4140_0000)
 unfolding deltas
 each-by-its-own-map = (refl, refl, refl)
+
+-- An entry of a map with 4 inner bits: the outer index keeps 16 bits of it, neither more nor fewer.
+abbrev indexed : ℕ → ℕ → DeltaSetIndex
+indexed outer inner = record { outer = outer; inner = inner }
+
+pub outer-keeps-16-bits :
+    (deltaSetIndexOf 4 0x8_0005 ≡ indexed 0x8000 5)
+    × (deltaSetIndexOf 4 0xf_ffff ≡ indexed 0xffff 15)
+    × (deltaSetIndexOf 4 0x10_0005 ≡ indexed 0 5)
+outer-keeps-16-bits = (refl, refl, refl)
 
 -- Without a map a bearing has no delta, which is 0.0: the glyph is not its index.
 pub no-map-for-bearings : floatOf (metricDelta s1-font 4 bearing 0 (pos 8192 ∷ [])) ≡ float 0

@@ -1,1 +1,2 @@
-// No code: what stands here is in proofs/.
+// The examples stand in proofs/. What code there is shows them the code's constants.
+mod tags;

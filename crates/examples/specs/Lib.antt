@@ -1,0 +1,2 @@
+-- What the contract of `examples` cites.
+pub mod Tags

@@ -6,6 +6,7 @@ mod numbers;
 mod random;
 mod store;
 mod swash;
+mod tags;
 mod text;
 
 use std::cell::Cell;
@@ -35,8 +36,8 @@ pub enum Rust {
     None,
     /// panics, by an overflow check
     Stops,
-    /// has no counterpart: a list too short, lists of different length, an outer index over 16 bits, a
-    /// measure that is no 16-bit integer
+    /// has no counterpart: a list too short, lists of different length, an avar, an outer index over 16
+    /// bits, a measure that is no 16-bit integer
     Silent,
 }
 
@@ -105,6 +106,7 @@ fn of_subjects(line: &str) -> Option<Expected> {
     number
         .or_else(|| axes::parse(line).map(|case| case.expected()))
         .or_else(|| store::parse(line).map(|case| case.expected()))
+        .or_else(|| store::tags(line))
         .or_else(|| metrics::parse(line).map(|case| case.expected()))
 }
 
@@ -256,7 +258,7 @@ fn write_all(lines: impl Iterator<Item = String>) {
 fn cases(seed: &str, count: &str, subject: &str) -> Option<Box<dyn Iterator<Item = String>>> {
     let seed = seed.parse().ok()?;
     let numbers = numbers::cases::Cases::new(seed);
-    let mut axes = axes::cases::Cases::new(seed);
+    let mut axes = axes::cases::with_avar(seed);
     let mut store = store::cases::Cases::new(seed);
     let mut metrics = metrics::cases::Cases::new(seed);
     let all: Box<dyn Iterator<Item = String>> = match subject {
@@ -277,6 +279,9 @@ fn cases(seed: &str, count: &str, subject: &str) -> Option<Box<dyn Iterator<Item
 /// How many lines of each subject the stored sample has; of the metrics it has half as many.
 const SAMPLE: usize = 3000;
 
+/// How many of them are of avar. These, and what else came later, stand behind the others.
+const SAMPLE_OF_AVAR: usize = 500;
+
 fn run(words: &[&str]) -> Option<bool> {
     match *words {
         ["cases", seed, count, subject] => write_all(cases(seed, count, subject)?),
@@ -286,6 +291,10 @@ fn run(words: &[&str]) -> Option<bool> {
             write_all(axes::cases::sample(seed, SAMPLE).into_iter());
             write_all(store::cases::sample(seed, SAMPLE).into_iter());
             write_all(metrics::cases::sample(seed, SAMPLE / 2).into_iter());
+            write_all(axes::avar::sample(seed, SAMPLE_OF_AVAR).into_iter());
+            write_all(axes::cases::many_axes().into_iter());
+            write_all(store::cases::outer_bits().into_iter());
+            write_all([store::TAG_CASE.to_string()].into_iter());
         }
         ["answers"] => {
             let answer = |line: String| {

@@ -17,6 +17,7 @@ mod random;
 #[allow(dead_code)]
 mod suolluvik;
 mod swash;
+mod tags;
 #[allow(dead_code)]
 mod text;
 

@@ -1,10 +1,9 @@
-// Cases of normalising and of coordinate lists. None has an avar.
+// Cases of normalising and of coordinate lists, with an avar or without, which is an offset of 0.
 use crate::Buffer;
 use crate::parse;
 use crate::parse::Parsed;
 use crate::parse::Size;
 use crate::print;
-use crate::words::count;
 use crate::words::word;
 use axes::axis::VarAxis;
 use axes::fvar::Fvar;
@@ -13,11 +12,15 @@ use numbers::F2Dot14;
 use numbers::Fixed;
 use readers::F2Dot14Answer;
 
-// min, default, max and a value
-pub(crate) fn put_coord(line: &[u8], out: &mut Buffer, waiting: usize) -> usize {
-    if count(line) != 5 {
-        return print::put(out, waiting, b'?');
-    }
+// min, default, max and a value; with an avar the axis's index
+pub(crate) fn put_coord(
+    line: &[u8],
+    index: u16,
+    font: &[u8],
+    avar: u32,
+    out: &mut Buffer,
+    waiting: usize,
+) -> usize {
     let Parsed::Value(min) = parse::integer(word(line, 1)) else {
         return print::put(out, waiting, b'?');
     };
@@ -31,7 +34,7 @@ pub(crate) fn put_coord(line: &[u8], out: &mut Buffer, waiting: usize) -> usize 
         return print::put(out, waiting, b'?');
     };
     let axis = VarAxis {
-        index: 0,
+        index,
         tag: 0,
         name_id: 0,
         flags: 0,
@@ -40,7 +43,7 @@ pub(crate) fn put_coord(line: &[u8], out: &mut Buffer, waiting: usize) -> usize 
         max: Fixed::from_bits(max),
     };
     put_answer(
-        axis.normalized_coord(Fixed::from_bits(value), b"", 0),
+        axis.normalized_coord(Fixed::from_bits(value), font, avar),
         out,
         waiting,
     )
@@ -57,7 +60,14 @@ fn put_answer(answer: F2Dot14Answer, out: &mut Buffer, waiting: usize) -> usize 
 }
 
 // tags, values and the list's room, behind the table
-pub(crate) fn put_settings(table: &[u8], line: &[u8], out: &mut Buffer, waiting: usize) -> usize {
+pub(crate) fn put_settings(
+    table: &[u8],
+    line: &[u8],
+    font: &[u8],
+    avar: u32,
+    out: &mut Buffer,
+    waiting: usize,
+) -> usize {
     let mut tags = parse::empty_bits();
     let Size::Value(tag_count) = parse::list(word(line, 2), &mut tags) else {
         return print::put(out, waiting, b'?');
@@ -73,6 +83,8 @@ pub(crate) fn put_settings(table: &[u8], line: &[u8], out: &mut Buffer, waiting:
     parse::floats(&bits, value_count, &mut values);
     put_coords(
         table,
+        font,
+        avar,
         parse::first(&tags, tag_count),
         parse::first_floats(&values, value_count),
         room,
@@ -84,6 +96,8 @@ pub(crate) fn put_settings(table: &[u8], line: &[u8], out: &mut Buffer, waiting:
 // The largest 2.14 number stands where none was written: no coordinate has it.
 fn put_coords(
     table: &[u8],
+    font: &[u8],
+    avar: u32,
     tags: &[u32],
     values: &[f32],
     room: usize,
@@ -95,8 +109,8 @@ fn put_coords(
     let answer = variation::normalized_coords(
         Fvar::new(table),
         table,
-        b"",
-        0,
+        font,
+        avar,
         tags,
         values,
         &mut list[0..n],
@@ -107,6 +121,8 @@ fn put_coords(
 
 pub(crate) fn put_instance(
     table: &[u8],
+    font: &[u8],
+    avar: u32,
     index: u16,
     room: usize,
     out: &mut Buffer,
@@ -117,8 +133,8 @@ pub(crate) fn put_instance(
     let answer = variation::instance_coords(
         Fvar::new(table),
         table,
-        b"",
-        0,
+        font,
+        avar,
         index,
         &mut list[0..n],
     );

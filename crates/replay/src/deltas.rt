@@ -1,4 +1,4 @@
-// Cases of the item variation store, of a glyph's deltas and of MVAR.
+// Cases of the item variation store, of a glyph's deltas and of MVAR, and its tags.
 use crate::Buffer;
 use crate::parse;
 use crate::parse::Parsed;
@@ -15,11 +15,13 @@ use store::metric;
 use store::mvar;
 use store::mvar::Header;
 use store::mvar::HeaderAnswer;
+use store::mvar_tags::*;
 
 pub(crate) enum Answer {
     Delta(FixedAnswer),
     Float(f32),
     Opened(HeaderAnswer),
+    Tags,
     NoCase,
 }
 
@@ -31,6 +33,7 @@ pub(crate) fn put(answer: Answer, out: &mut Buffer, waiting: usize) -> usize {
             print::put_next_float(out, at, x)
         }
         Answer::Opened(header) => put_header(header, out, waiting),
+        Answer::Tags => put_tags(out, waiting),
         Answer::NoCase => print::put(out, waiting, b'?'),
     }
 }
@@ -51,14 +54,56 @@ fn put_numbers(header: Header, out: &mut Buffer, waiting: usize) -> usize {
     print::put_values(out, waiting, &numbers)
 }
 
-// The coordinates are a case's last word; opening an MVAR has none.
+fn put_tags(out: &mut Buffer, waiting: usize) -> usize {
+    let tags = [
+        HASC as u64,
+        HDSC as u64,
+        HLGP as u64,
+        HCRS as u64,
+        HCRN as u64,
+        HCOF as u64,
+        HCLA as u64,
+        HCLD as u64,
+        VASC as u64,
+        VDSC as u64,
+        VLGP as u64,
+        VCRS as u64,
+        VCRN as u64,
+        VCOF as u64,
+        XHGT as u64,
+        CPHT as u64,
+        UNDO as u64,
+        UNDS as u64,
+        STRO as u64,
+        STRS as u64,
+        SBXO as u64,
+        SBYO as u64,
+        SBXS as u64,
+        SBYS as u64,
+        SPXO as u64,
+        SPYO as u64,
+        SPXS as u64,
+        SPYS as u64,
+    ];
+    print::put_values(out, waiting, &tags)
+}
+
+// The coordinates are a case's last word; opening an MVAR has none, and its tags have no word.
 pub(crate) fn of_line(line: &[u8]) -> Answer {
     match count(line) {
+        1 => of_none(line),
         3 => of_opening(line),
         5 => of_font(line, word(line, 4)),
         6 => of_font(line, word(line, 5)),
         _ => Answer::NoCase,
     }
+}
+
+fn of_none(line: &[u8]) -> Answer {
+    if same(line, b"mvar_tags") {
+        return Answer::Tags;
+    }
+    Answer::NoCase
 }
 
 fn of_opening(line: &[u8]) -> Answer {

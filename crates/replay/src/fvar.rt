@@ -1,5 +1,6 @@
 // Cases of fvar: the header, axes, instances and their values.
 use crate::Buffer;
+use crate::avar;
 use crate::coords;
 use crate::parse;
 use crate::parse::Parsed;
@@ -18,14 +19,24 @@ use axes::fvar::NameId;
 use axes::fvar::VarInstance;
 
 pub(crate) fn put_line(line: &[u8], out: &mut Buffer, waiting: usize) -> usize {
+    if avar::takes(line) {
+        return avar::put_line(line, out, waiting);
+    }
     if same(word(line, 0), b"normalized_coord") {
-        return coords::put_coord(line, out, waiting);
+        return put_coord(line, out, waiting);
     }
     let mut bytes = io::large_buffer();
     let Size::Value(size) = parse::bytes(word(line, 1), &mut bytes) else {
         return print::put(out, waiting, b'?');
     };
     put_case(parse::first_bytes(&bytes, size), line, out, waiting)
+}
+
+fn put_coord(line: &[u8], out: &mut Buffer, waiting: usize) -> usize {
+    if count(line) == 5 {
+        return coords::put_coord(line, 0, b"", 0, out, waiting);
+    }
+    print::put(out, waiting, b'?')
 }
 
 fn put_case(table: &[u8], line: &[u8], out: &mut Buffer, waiting: usize) -> usize {
@@ -102,14 +113,14 @@ fn put_written(
 ) -> usize {
     match which(name, b"instance_floats instance_coords") {
         0 => put_floats(table, i, room, out, waiting),
-        1 => coords::put_instance(table, i, room, out, waiting),
+        1 => coords::put_instance(table, b"", 0, i, room, out, waiting),
         _ => print::put(out, waiting, b'?'),
     }
 }
 
 fn put_of_three(name: &[u8], table: &[u8], line: &[u8], out: &mut Buffer, waiting: usize) -> usize {
     if same(name, b"normalized_coords") {
-        return coords::put_settings(table, line, out, waiting);
+        return coords::put_settings(table, line, b"", 0, out, waiting);
     }
     print::put(out, waiting, b'?')
 }

@@ -1,5 +1,6 @@
 // Answers cases from standard input, one to a line, by the functions of this repository: a line of
 // standard output for each. oracle/README.md has the format.
+mod avar;
 mod coords;
 mod deltas;
 mod fixed;

@@ -1,12 +1,12 @@
 //! Cases of fvar, normalising and coordinate lists: whole tables of many shapes cut at every byte, and
 //! random ones, whole, damaged and cut.
 
-use super::FUNCTIONS;
+use super::{avar, FUNCTIONS};
 use crate::random::Random;
 use crate::text;
 
-const MIN: i64 = -(1 << 31);
-const MAX: i64 = (1 << 31) - 1;
+pub(super) const MIN: i64 = -(1 << 31);
+pub(super) const MAX: i64 = (1 << 31) - 1;
 
 const TAGS: [u32; 6] = [
     u32::from_be_bytes(*b"wght"),
@@ -158,7 +158,7 @@ const QUESTIONS: [(&str, &str); 44] = [
     ("instance_coords", " 2 4"),
 ];
 
-fn line(name: &str, table: &[u8], rest: &str) -> String {
+pub(super) fn line(name: &str, table: &[u8], rest: &str) -> String {
     format!("{name} {}{rest}", text::bytes_text(table.iter().copied()))
 }
 
@@ -230,7 +230,7 @@ fn minus(random: &mut Random) -> i64 {
 }
 
 /// A number of any magnitude, or a limit.
-fn word(random: &mut Random) -> i64 {
+pub(super) fn word(random: &mut Random) -> i64 {
     let x = match random.below(4) {
         0 => (random.bits() as i64) >> 32,
         1 => random.pick(&LIMITS),
@@ -241,7 +241,7 @@ fn word(random: &mut Random) -> i64 {
 }
 
 /// An axis' min, default and max, and a value.
-fn axis(random: &mut Random) -> ([i64; 3], i64) {
+pub(super) fn axis(random: &mut Random) -> ([i64; 3], i64) {
     let mut limits = [word(random), word(random), word(random)];
     match random.below(8) {
         // as an axis ought to be
@@ -278,7 +278,7 @@ fn axis(random: &mut Random) -> ([i64; 3], i64) {
 }
 
 /// A table, whole or damaged.
-fn table(random: &mut Random) -> Vec<u8> {
+pub(super) fn table(random: &mut Random) -> Vec<u8> {
     let axes = match random.below(16) {
         0 => 0,
         1 => random.below(8),
@@ -347,7 +347,7 @@ fn damaged(mut table: Vec<u8>, random: &mut Random) -> Vec<u8> {
     table
 }
 
-fn index(random: &mut Random) -> u64 {
+pub(super) fn index(random: &mut Random) -> u64 {
     match random.below(12) {
         0 => random.below(65536),
         1 => random.pick(&[31, 32, 33, 255, 256, 65534, 65535]),
@@ -365,7 +365,7 @@ fn tag(table: &[u8], random: &mut Random) -> u32 {
     }
 }
 
-fn room(table: &[u8], random: &mut Random) -> u64 {
+pub(super) fn room(table: &[u8], random: &mut Random) -> u64 {
     let axes = table
         .get(8..10)
         .map_or(0, |b| u16::from_be_bytes([b[0], b[1]]) as u64);
@@ -391,7 +391,7 @@ fn float(random: &mut Random) -> u32 {
     }
 }
 
-fn settings(table: &[u8], random: &mut Random) -> String {
+pub(super) fn settings(table: &[u8], random: &mut Random) -> String {
     let count = match random.below(100) {
         0 => random.below(text::LIST as u64 + 1),
         _ => random.below(5),
@@ -458,6 +458,16 @@ impl Iterator for Cases {
             Some(self.edges.nth(turn * STRIDE % self.edges.count()))
         }
     }
+}
+
+/// Every fourth case is one of avar.
+pub fn with_avar(seed: u64) -> impl Iterator<Item = String> {
+    let mut others = Cases::new(seed);
+    let mut avars = avar::Cases::new(seed);
+    (0..).map_while(move |turn: u64| match turn % 4 {
+        3 => avars.next(),
+        _ => others.next(),
+    })
 }
 
 /// The examples of the rules, and the inputs where a wrong order, sign or place shows.
@@ -554,4 +564,46 @@ pub fn sample(seed: u64, count: usize) -> Vec<String> {
     let rest = count - lines.len();
     lines.extend(Cases::new(seed).take(rest));
     lines
+}
+
+/// Instances of more than 32 axes: in the first each axis has a coordinate of its own, in the second the
+/// last axis is refused. With an avar that has a map for the last axis alone. Settings of the first, the
+/// 32nd and the last axis. They stand behind the sample, whose lines stay as they are.
+pub fn many_axes() -> Vec<String> {
+    let tag = |i: i64| u32::from_be_bytes(*b"ax00") + i as u32;
+    let least = |i: i64| if i == 32 { MIN } else { -(i + 1) << 16 };
+    let limits = |i: i64| [least(i), 0, (i + 1) << 16];
+    let first: Vec<i64> = (0..33).map(|i| (i + 1) * (1000 + 64 * i)).collect();
+    let second = [&first[..32], &[MIN]].concat();
+    let table = Parts {
+        axis_offset: 16,
+        axis_size: 20,
+        instance_size: 4 + 4 * 33,
+        axes: (0..33).map(|i| (tag(i), limits(i), 0, 0x0100)).collect(),
+        instances: vec![first, second],
+    }
+    .table();
+    let halved = format!(
+        "ff0001000000000021{}00020000000040002000",
+        "0000".repeat(32)
+    );
+    let set = |i: i64| format!(" {:08x} 3f800000 33", tag(i));
+    let questions = [
+        ("get_instance", " 0".to_string()),
+        ("instance_values", " 0".to_string()),
+        ("instance_floats", " 0 32".to_string()),
+        ("instance_floats", " 0 33".to_string()),
+        ("instance_floats", " 1 34".to_string()),
+        ("instance_coords", " 0 32".to_string()),
+        ("instance_coords", " 0 33".to_string()),
+        ("instance_coords", " 0 34".to_string()),
+        ("instance_coords", " 1 32".to_string()),
+        ("instance_coords", " 1 33".to_string()),
+        ("instance_coords", format!(" 0 34 {halved} 1")),
+        ("normalized_coords", set(0)),
+        ("normalized_coords", set(31)),
+        ("normalized_coords", set(32)),
+    ];
+    let lines = questions.map(|(name, rest)| line(name, &table, &rest));
+    lines.into()
 }

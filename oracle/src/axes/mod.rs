@@ -1,12 +1,13 @@
-//! The cases of fvar, normalising and coordinate lists: their text, the Rust's answer, the rules'
+//! The cases of fvar, avar, normalising and coordinate lists: their text, the Rust's answer, the rules'
 //! answer.
 
+pub mod avar;
 pub mod cases;
 pub mod rules;
 
 use crate::numbers::rules::to_f32;
 use crate::swash::internal::fixed::Fixed;
-use crate::swash::internal::var::{Fvar, VarAxis};
+use crate::swash::internal::var::{adjust_axis, Fvar, VarAxis};
 use crate::swash::internal::{Array, Bytes};
 use crate::swash::setting::Setting;
 use crate::swash::variation::{Instances, Variations};
@@ -51,6 +52,27 @@ pub const FUNCTIONS: [(&str, &[Kind]); 11] = [
     ("instance_coords", &[Kind::Bytes, Kind::Index, Kind::Room]),
 ];
 
+/// The functions that take an avar, as they are called with one: a name for the table's row, and what
+/// stands before the avar. An avar is a font and an offset, a case's last two words.
+pub const WITH_AVAR: [(&str, &str, &[Kind]); 4] = [
+    ("adjust_axis", "adjust_axis", &[Kind::Index, Kind::Word]),
+    (
+        "normalized_coord",
+        "normalized_coord, avar",
+        &[Kind::Word, Kind::Word, Kind::Word, Kind::Word, Kind::Index],
+    ),
+    (
+        "normalized_coords",
+        "normalized_coords, avar",
+        &[Kind::Bytes, Kind::List, Kind::List, Kind::Room],
+    ),
+    (
+        "instance_coords",
+        "instance_coords, avar",
+        &[Kind::Bytes, Kind::Index, Kind::Room],
+    ),
+];
+
 pub enum Argument {
     Bytes(Vec<u8>),
     List(Vec<u32>),
@@ -72,19 +94,50 @@ fn argument(kind: Kind, word: &str) -> Option<Argument> {
 
 pub struct Case {
     name: &'static str,
+    /// the name of the table's row
+    row: &'static str,
     arguments: Vec<Argument>,
+    /// an avar's font and offset; a case that has none has the offset 0
+    font: Vec<u8>,
+    avar: u32,
 }
 
 /// The case that a line is, if it is one.
 pub fn parse(line: &str) -> Option<Case> {
-    let mut words = line.split(' ');
-    let first = words.next()?;
-    let (name, kinds) = FUNCTIONS.iter().find(|(name, _)| *name == first)?;
-    let mut arguments = vec![];
-    for kind in *kinds {
-        arguments.push(argument(*kind, words.next()?)?);
+    let words: Vec<&str> = line.split(' ').collect();
+    let (first, words) = words.split_first()?;
+    bare(first, words).or_else(|| with_avar(first, words))
+}
+
+fn arguments(kinds: &[Kind], words: &[&str]) -> Option<Vec<Argument>> {
+    if kinds.len() != words.len() {
+        return None;
     }
-    words.next().is_none().then_some(Case { name, arguments })
+    let pairs = kinds.iter().zip(words);
+    pairs.map(|(kind, word)| argument(*kind, word)).collect()
+}
+
+fn bare(first: &str, words: &[&str]) -> Option<Case> {
+    let (name, kinds) = FUNCTIONS.iter().find(|(name, _)| *name == first)?;
+    Some(Case {
+        name,
+        row: name,
+        arguments: arguments(kinds, words)?,
+        font: vec![],
+        avar: 0,
+    })
+}
+
+fn with_avar(first: &str, words: &[&str]) -> Option<Case> {
+    let (name, row, kinds) = WITH_AVAR.iter().find(|(name, ..)| *name == first)?;
+    let (words, [font, offset]) = words.split_last_chunk()?;
+    Some(Case {
+        name,
+        row,
+        arguments: arguments(kinds, words)?,
+        font: text::bytes(font)?,
+        avar: u32::try_from(text::natural(offset)?).ok()?,
+    })
 }
 
 /// What a list that is written to holds before: no float of a 16.16 number, no coordinate.
@@ -195,8 +248,24 @@ impl Case {
         }
     }
 
-    /// What swash answers. It may panic.
+    fn avar(&self) -> rules::Avar<'_> {
+        rules::Avar {
+            font: &self.font,
+            offset: self.avar as usize,
+        }
+    }
+
+    /// What swash answers. It may panic. Where there is an avar, it hands it to skrifa, which is not here.
     fn rust(&self) -> Option<Rust> {
+        if self.avar != 0 {
+            return Some(Rust::Silent);
+        }
+        if self.name == "adjust_axis" {
+            let (axis, value) = (self.number(0) as u16, Fixed(self.number(1) as i32));
+            // its callers keep the value for a `None`
+            let adjusted = adjust_axis(&self.font, 0, axis, value).unwrap_or(value);
+            return Some(Rust::Answer(format!("value {}", adjusted.0)));
+        }
         if self.name == "normalized_coord" {
             let [min, default, max, value] = [0, 1, 2, 3].map(|i| Fixed(self.number(i) as i32));
             let axis = VarAxis {
@@ -327,25 +396,33 @@ impl Case {
                 let bits = values.map(|values| values.into_iter().map(to_f32).collect());
                 list_answer(bits, index(2), floats)
             }
+            "adjust_axis" => {
+                let value = rules::adjust(self.avar(), index(0), self.number(1) as i128);
+                format!("value {value}")
+            }
             "normalized_coord" => {
                 let [min, default, max, value] = [0, 1, 2, 3].map(|i| self.number(i) as i128);
+                // without an avar the index doesn't matter, and is not told
+                let told = self.arguments.len() > 4;
                 let axis = rules::Axis {
+                    index: if told { index(4) } else { 0 },
                     min,
                     default,
                     max,
                     ..rules::Axis::default()
                 };
-                match rules::normalise(&axis, value) {
+                match rules::normalise(&axis, self.avar(), value) {
                     Ok(coord) => format!("value {coord}"),
                     Err(number) => refused(number),
                 }
             }
             "normalized_coords" => {
-                let list = rules::settings(self.bytes(0), self.list(1), self.list(2), index(3));
+                let (tags, floats) = (self.list(1), self.list(2));
+                let list = rules::settings(self.bytes(0), self.avar(), tags, floats, index(3));
                 list_answer(list, index(3), coords)
             }
             "instance_coords" => {
-                let list = rules::instance_coords(self.bytes(0), index(1), index(2));
+                let list = rules::instance_coords(self.bytes(0), self.avar(), index(1), index(2));
                 list_answer(list, index(2), coords)
             }
             _ => unreachable!(),
@@ -353,7 +430,7 @@ impl Case {
     }
 
     /// `None` is one of 1 to 4; a stop is 5, or 2 for an instance with 2 or 3 bytes left; what has no
-    /// counterpart is 6 or 7.
+    /// counterpart is 6 or 7, or anything by an avar.
     fn agree(&self, rust: &Rust, rule: &str) -> bool {
         let number = match rule.strip_prefix("refused ") {
             Some(rest) => rest.as_bytes()[0] - b'0',
@@ -367,7 +444,7 @@ impl Case {
                     && rules::few_left(self.bytes(0), self.number(1) as usize)
             }
             Rust::Stops => number == 5,
-            Rust::Silent => number == 6 || number == 7,
+            Rust::Silent => number == 6 || number == 7 || self.avar != 0,
         }
     }
 
@@ -375,7 +452,7 @@ impl Case {
         let rust = Rust::of(|| self.rust().unwrap_or(Rust::None));
         let rule = self.rule();
         Expected {
-            name: self.name,
+            name: self.row,
             agree: self.agree(&rust, &rule),
             rust,
             rule,

@@ -1,8 +1,8 @@
-//! The rules for fvar, normalising and coordinate lists, from their text alone, in exact integers.
+//! The rules for fvar, avar, normalising and coordinate lists, from their text alone, in exact integers.
 //! Nothing here is taken from the Rust or from the Rattle, so that it judges both. A refusal is its
 //! number.
 
-use crate::numbers::rules::{from_f32, to_f2dot14, wrap32};
+use crate::numbers::rules::{from_f2dot14, from_f32, muldiv, to_f2dot14, wrap32};
 
 pub type Answer<T> = Result<T, u8>;
 
@@ -137,12 +137,78 @@ pub fn instance_values(table: &[u8], index: usize, room: usize) -> Answer<Vec<i1
     Ok(values)
 }
 
+/// An avar: its font, and where it starts in that. At 0 there is none.
+#[derive(Clone, Copy)]
+pub struct Avar<'a> {
+    pub font: &'a [u8],
+    pub offset: usize,
+}
+
+/// For the shelf, which asks without one.
+#[allow(dead_code)]
+pub const NO_AVAR: Avar = Avar {
+    font: &[],
+    offset: 0,
+};
+
+/// Axis count at 6; from 8 on, per axis a count and pairs from, to in 2.14: an axis' pairs, in 16.16.
+/// None with an offset of 0, for an axis at or past the count, or by a read past the end before its
+/// map's end.
+fn pairs(avar: Avar, axis: usize) -> Option<Vec<(i128, i128)>> {
+    // everything is 16 bits wide: number k stands at 2·k
+    let number = |k: usize| unsigned(avar.font, avar.offset + 2 * k, 2).ok();
+    if avar.offset == 0 || axis as i128 >= number(3)? {
+        return None;
+    }
+    let mut numbers = (4..).map(number);
+    let mut next = || numbers.next().flatten();
+    for _ in 0..axis {
+        let earlier = next()?;
+        for _ in 0..2 * earlier {
+            next()?;
+        }
+    }
+    let count = next()?;
+    let signed = |x: i128| from_f2dot14(if x < 32768 { x } else { x - 65536 }) as i128;
+    (0..count)
+        .map(|_| Some((signed(next()?), signed(next()?))))
+        .collect()
+}
+
+/// Take the first pair whose from is not below the value: equal gives its to; if it is the first pair,
+/// or none exists, the value stays; otherwise, with the pair before it, to0 plus (to1 - to0)·(v - from0)
+/// over (from1 - from0), rounded as muldiv.
+fn mapped(pairs: &[(i128, i128)], value: i128) -> i128 {
+    let Some(k) = pairs.iter().position(|(from, _)| *from >= value) else {
+        return value;
+    };
+    let (from1, to1) = pairs[k];
+    if from1 == value {
+        return to1;
+    }
+    if k == 0 {
+        return value;
+    }
+    let (from0, to0) = pairs[k - 1];
+    to0 + muldiv(to1 - to0, value - from0, from1 - from0) as i128
+}
+
+/// What an avar makes of a value of an axis, in 16.16.
+pub fn adjust(avar: Avar, axis: usize, value: i128) -> i128 {
+    pairs(avar, axis).map_or(value, |pairs| mapped(&pairs, value))
+}
+
 const HALF: i128 = 1 << 31;
 
 /// If below min take min, else if above max take max. Below default: minus (default - value) over
-/// (default - min). Above: (value - default) over (max - default). Equal: 0. Hold to -65536..65536, go
-/// to 2.14.
-pub fn normalise(axis: &Axis, value: i128) -> Answer<i64> {
+/// (default - min). Above: (value - default) over (max - default). Equal: 0. Hold to -65536..65536,
+/// apply avar, go to 2.14.
+pub fn normalise(axis: &Axis, avar: Avar, value: i128) -> Answer<i64> {
+    let held = from_default(axis, value)?.clamp(-65536, 65536);
+    Ok(to_f2dot14(adjust(avar, axis.index, held)))
+}
+
+fn from_default(axis: &Axis, value: i128) -> Answer<i128> {
     let value = match value {
         v if v < axis.min => axis.min,
         v if v > axis.max => axis.max,
@@ -170,12 +236,17 @@ pub fn normalise(axis: &Axis, value: i128) -> Answer<i64> {
         return Err(5);
     }
     let ratio = wrap32(if signs_differ { -quotient } else { quotient }) as i128;
-    let ratio = wrap32(if below { -ratio } else { ratio }) as i128;
-    Ok(to_f2dot14(ratio.clamp(-65536, 65536)))
+    Ok(wrap32(if below { -ratio } else { ratio }) as i128)
 }
 
 /// From settings. Order: 6, 7, then the first 5.
-pub fn settings(table: &[u8], tags: &[u32], floats: &[u32], room: usize) -> Answer<Vec<i64>> {
+pub fn settings(
+    table: &[u8],
+    avar: Avar,
+    tags: &[u32],
+    floats: &[u32],
+    room: usize,
+) -> Answer<Vec<i64>> {
     if tags.len() != floats.len() {
         return Err(6);
     }
@@ -188,7 +259,7 @@ pub fn settings(table: &[u8], tags: &[u32], floats: &[u32], room: usize) -> Answ
         for (i, coord) in coords.iter_mut().enumerate() {
             match axis(table, i) {
                 Ok(axis) if axis.tag == *tag => {
-                    *coord = normalise(&axis, from_f32(*float) as i128)?;
+                    *coord = normalise(&axis, avar, from_f32(*float) as i128)?;
                 }
                 _ => (),
             }
@@ -197,10 +268,10 @@ pub fn settings(table: &[u8], tags: &[u32], floats: &[u32], room: usize) -> Answ
     Ok(coords)
 }
 
-/// For an instance every axis counts; an unreadable one is all zeros. Order: the instance's refusal, 7,
-/// 5.
-pub fn instance_coords(table: &[u8], index: usize, room: usize) -> Answer<Vec<i64>> {
+/// For an instance every axis counts; an unreadable one is all zeros with index 0. Order: the
+/// instance's refusal, 7, 5.
+pub fn instance_coords(table: &[u8], avar: Avar, index: usize, room: usize) -> Answer<Vec<i64>> {
     let values = instance_values(table, index, room)?;
-    let coord = |(i, value)| normalise(&axis(table, i).unwrap_or_default(), value);
+    let coord = |(i, value)| normalise(&axis(table, i).unwrap_or_default(), avar, value);
     values.into_iter().enumerate().map(coord).collect()
 }

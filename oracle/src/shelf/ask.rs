@@ -2,49 +2,18 @@
 
 use super::font::{u16_at, u32_at, Font};
 use super::judge::{asked, Function, Judge, Rust, CHANGED};
-use crate::axes::rules::{self as axis_rules, Answer};
+use crate::axes::rules::{self as axis_rules, Answer, NO_AVAR};
 use crate::numbers::rules::to_f32;
 use crate::random::Random;
 use crate::store::rules::{self as store_rules, Map};
 use crate::suolluvik::{self, Refusal};
 use crate::swash::internal::fixed::Fixed;
-use crate::swash::internal::var::{self, mvar_tags, Fvar, VarAxis};
+use crate::swash::internal::var::{self, Fvar, VarAxis};
 use crate::swash::internal::{raw_tag, shown};
 use crate::swash::setting::Setting;
 use crate::swash::variation::{Instances, Variation, Variations};
 use crate::swash::FontRef;
-
-/// All of swash's tags of measures.
-const TAGS: [u32; 28] = [
-    mvar_tags::HASC,
-    mvar_tags::HDSC,
-    mvar_tags::HLGP,
-    mvar_tags::HCRS,
-    mvar_tags::HCRN,
-    mvar_tags::HCOF,
-    mvar_tags::HCLA,
-    mvar_tags::HCLD,
-    mvar_tags::VASC,
-    mvar_tags::VDSC,
-    mvar_tags::VLGP,
-    mvar_tags::VCRS,
-    mvar_tags::VCRN,
-    mvar_tags::VCOF,
-    mvar_tags::XHGT,
-    mvar_tags::CPHT,
-    mvar_tags::UNDO,
-    mvar_tags::UNDS,
-    mvar_tags::STRO,
-    mvar_tags::STRS,
-    mvar_tags::SBXO,
-    mvar_tags::SBYO,
-    mvar_tags::SBXS,
-    mvar_tags::SBYS,
-    mvar_tags::SPXO,
-    mvar_tags::SPYO,
-    mvar_tags::SPXS,
-    mvar_tags::SPYS,
-];
+use crate::tags::TAGS;
 
 /// A tag that no font has.
 const UNKNOWN: u32 = raw_tag(b"\x01no\x7f");
@@ -297,7 +266,7 @@ impl<'a> Asker<'a, '_> {
                 let ours = suolluvik::instance_coords(table, self.font.data, 0, index, &mut list);
                 let ours = our_list(ours, list, COORD_MARK, |coord| coord);
                 let rule = || {
-                    let coords = axis_rules::instance_coords(table, index as usize, room)?;
+                    let coords = axis_rules::instance_coords(table, NO_AVAR, index as usize, room)?;
                     let coords = coords.into_iter().map(|coord| coord as i16);
                     Ok(written(coords, COORD_MARK, room))
                 };
@@ -362,7 +331,7 @@ impl<'a> Asker<'a, '_> {
         let ours = our_list(ours, list, COORD_MARK, |coord| coord);
         let rule = || {
             let bits: Vec<u32> = values.iter().map(|value| value.to_bits()).collect();
-            let coords = axis_rules::settings(table, tags, &bits, room)?;
+            let coords = axis_rules::settings(table, NO_AVAR, tags, &bits, room)?;
             let coords = coords.into_iter().map(|coord| coord as i16);
             Ok(written(coords, COORD_MARK, room))
         };

@@ -1137,3 +1137,19 @@ pub fn sample(seed: u64, count: usize) -> Vec<String> {
     lines.extend(Cases::new(seed).filter(short).take(rest));
     lines
 }
+
+/// A map of 17 entries, for advances and bearings alike, over a store of one subtable: the outer index
+/// of entry g is 2^g. It keeps its low 16 bits: each is refused but the last, which is read as 0. They
+/// stand behind the sample, whose lines stay as they are.
+pub fn outer_bits() -> Vec<String> {
+    let entries: String = (0..17).map(|g| format!("{:08x}", 2u32 << g)).collect();
+    let head = "0000000000010000000000580000001000000010";
+    let store = "00010000000c0001000000100000000100010000000100000a";
+    let font = format!("{head}00300011{entries}{store}");
+    let ask = |name: &str, g: usize| format!("{name} {font} 4 {g} -");
+    let mut lines: Vec<String> = (0..17).map(|g| ask("advance_fixed", g)).collect();
+    for name in ["sb_fixed", "advance_delta", "sb_delta"] {
+        lines.extend([0, 8, 15, 16].map(|g| ask(name, g)));
+    }
+    lines
+}

@@ -10,6 +10,7 @@ use crate::axes::rules::Answer;
 use crate::numbers::rules::to_f32;
 use crate::swash::internal::fixed::Fixed;
 use crate::swash::internal::{shown, var};
+use crate::tags::TAGS;
 use crate::text;
 use crate::{Expected, Rust};
 use footprint::Footprint;
@@ -228,4 +229,32 @@ impl Case {
             agree,
         }
     }
+}
+
+/// The case of the tags of measures, which takes nothing.
+pub const TAG_CASE: &str = "mvar_tags";
+
+/// The letters of swash's tags, in its order.
+const LETTERS: &str = "\
+hasc hdsc hlgp hcrs hcrn hcof hcla hcld vasc vdsc vlgp vcrs vcrn vcof xhgt cpht undo unds stro strs \
+sbxo sbyo sbxs sbys spxo spyo spxs spys";
+
+/// The tags as numbers: the Rust's constants, and what their letters make.
+pub fn tags(line: &str) -> Option<Expected> {
+    if line != TAG_CASE {
+        return None;
+    }
+    let answer = |tags: Vec<u32>| {
+        let numbers: Vec<String> = tags.iter().map(u32::to_string).collect();
+        value(numbers.join(" "))
+    };
+    let number = |letters: &str| letters.bytes().fold(0, |x, letter| 256 * x + letter as u32);
+    let rust = answer(TAGS.to_vec());
+    let rule = answer(LETTERS.split(' ').map(number).collect());
+    Some(Expected {
+        name: TAG_CASE,
+        agree: rust == rule,
+        rust: Rust::Answer(rust),
+        rule,
+    })
 }

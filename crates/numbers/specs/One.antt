@@ -1,4 +1,4 @@
--- What "no second answer" says. No contract cites this file: the theorems whose names end in `-one` do, in every crate, one for each public function. Assumes nothing.
+-- What "no second answer" says. No contract cites this file: the theorems on public functions do, in every crate; their names end in `-one`. (Those of the opened MVAR are stated in full, `docs/DECISIONS.md` 49.) Assumes nothing.
 use mathlib.Core.Path.{_≡_}
 
 infixr 5 _and_

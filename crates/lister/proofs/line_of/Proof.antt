@@ -1,4 +1,4 @@
--- `axes_list::line_of` meets its contract: the axis or the refusal is what `get_axis` answered; a raw number is read back from its bits. Assumes nothing.
+-- `lister::line_of` meets its contract: the axis or the refusal is what `get_axis` answered; a raw number is read back from its bits. Assumes nothing.
 use mathlib.Core.Path.{_≡_}
 use Prim.Native.Nat.{_<_, _^_}
 use lib.IntN.{ℤ}
@@ -7,8 +7,9 @@ use mir.Syntax.{w32}
 use mir.Val.{toZ, ofZ, hbits}
 use mir.ValLaws.{toZ-ofZ}
 use borrow.Author.Needs.{needs, sfits-of}
-use Rattle.axes_list.proofs.line_of.Statement.{statement}
-use Rattle.axes_list.proofs.line_of.Tie as tie
+use Rattle.lister.proofs.Short.{axis-short, refused-short}
+use Rattle.lister.proofs.line_of.Statement.{statement}
+use Rattle.lister.proofs.line_of.Tie as tie
 
 raw : {x : ℤ} → mag x < 2 ^ hbits w32 → toZ w32 (ofZ w32 x) ≡ x
 raw fits = toZ-ofZ w32 _ (sfits-of fits)
@@ -34,13 +35,21 @@ refused-line-requires c κs = search needs
 returns : tie.Need-returns
 returns c =
     rw (← c .before .before .before .before .before .before .before .before .get-axis .ensures, c .before .before .before .before .before .before .a .given .1)
-    (let values = c .before .struct-told3 .given .1 .1 .1 .1 in
-    rw (raw (values .0 .1 .1 .0 .1), raw (values .1 .0 .1 .1 .0 .1), raw (values .1 .1 .0 .1 .1 .0 .1)) at (c .axis-line .ensures))
+    (let told = c .before .struct-told3 .given .1 .1 in
+    let values = told .1 .1 in
+    let said = rw (raw (values .0 .1 .1 .0 .1), raw (values .1 .0 .1 .1 .0 .1), raw (values .1 .1 .0 .1 .1 .0 .1)) at (c .axis-line .ensures) in (
+      said .0,
+      (
+        said .1,
+        rw (said .0 .0)
+            (axis-short _ _ _ _ _ _ _ (c .before .before .before .before .before .before .before .before .before .before .fits .index .fits) (values .0 .1 .1 .0 .1) (values .1 .0 .1 .1 .0 .1) (values .1 .1 .0 .1 .1 .0 .1) (told .1 .0 .1) (told .0 .1)),
+      ),
+    ))
 
 returns-2 : tie.Need-returns-2
 returns-2 c =
     rw (← c .before .before .before .before .before .before .get-axis .ensures, c .before .before .before .before .n .given .1, ← c .before .number .ensures)
-    (c .refused-line .ensures)
+    (c .refused-line .ensures .0, (c .refused-line .ensures .1, rw (c .refused-line .ensures .0 .0) (refused-short _ _ (search needs) (search needs))))
 
 pub line-of-spec : {M : Type 1} → statement M
 line-of-spec =

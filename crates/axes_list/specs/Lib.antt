@@ -1,2 +1,0 @@
--- What the contracts of `axes_list` cite.
-pub mod AxisText

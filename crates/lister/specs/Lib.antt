@@ -1,0 +1,2 @@
+-- What the contracts of `lister` cite.
+pub mod Listing

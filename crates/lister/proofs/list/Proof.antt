@@ -1,4 +1,5 @@
 -- A table, or the one line, by the input's length. Assumes nothing.
+use native.Mathlib.Omega.{arith}
 use borrow.Author.Needs.{needs}
 use Rattle.listing.proofs.Words.{whole}
 use Rattle.lister.proofs.Limit.{listed, too-long}
@@ -16,11 +17,11 @@ put-too-long-requires c κs = search needs
 
 returns : tie.Need-returns
 returns c =
-    rw (listed _ (c .before .before .before .if1 .taken), ← c .before .new .ensures)
+    rw (listed (c .before .before .before .before .before .args .input .now) (omega arith), ← c .before .new .ensures)
     (whole _ (c .put-table .ensures))
 
 returns-2 : tie.Need-returns-2
-returns-2 c = rw (too-long _ (c .before .before .if1 .left)) (whole _ (c .put-too-long .ensures))
+returns-2 c = rw (too-long (c .before .before .before .before .args .input .now) (omega arith)) (whole _ (c .put-too-long .ensures))
 
 pub list-spec : {M : Type 1} → statement M
 list-spec =

@@ -1,4 +1,4 @@
--- `lister::line_of` meets its contract: the axis or the refusal is what `get_axis` answered; a raw number is read back from its bits. Assumes nothing.
+-- `lister::line_of` meets its contract: the axis or the refusal is what `get_axis` answered; a raw number is read back from its bits; ranges bound the length. Assumes nothing.
 use mathlib.Core.Path.{_≡_}
 use Prim.Native.Nat.{_<_, _^_}
 use lib.IntN.{ℤ}
@@ -35,16 +35,13 @@ refused-line-requires c κs = search needs
 returns : tie.Need-returns
 returns c =
     rw (← c .before .before .before .before .before .before .before .before .get-axis .ensures, c .before .before .before .before .before .before .a .given .1)
-    (let told = c .before .struct-told3 .given .1 .1 in
-    let values = told .1 .1 in
-    let said = rw (raw (values .0 .1 .1 .0 .1), raw (values .1 .0 .1 .1 .0 .1), raw (values .1 .1 .0 .1 .1 .0 .1)) at (c .axis-line .ensures) in (
-      said .0,
-      (
-        said .1,
-        rw (said .0 .0)
-            (axis-short _ _ _ _ _ _ _ (c .before .before .before .before .before .before .before .before .before .before .fits .index .fits) (values .0 .1 .1 .0 .1) (values .1 .0 .1 .1 .0 .1) (values .1 .1 .0 .1 .1 .0 .1) (told .1 .0 .1) (told .0 .1)),
-      ),
-    ))
+    (let index = c .before .before .before .before .before .before .before .before .before .before .fits .index .fits in
+    let fields = c .before .struct-told3 .given .1 .1 in
+    let min = fields .1 .1 .0 .1 .1 .0 .1 in
+    let default = fields .1 .1 .1 .0 .1 .1 .0 .1 in
+    let max = fields .1 .1 .1 .1 .0 .1 .1 .0 .1 in
+    let said = rw (raw min, raw default, raw max) at (c .axis-line .ensures) in
+    (said .0, (said .1, rw (said .0 .0) (axis-short _ _ _ _ _ _ _ index min default max (fields .1 .0 .1) (fields .0 .1)))))
 
 returns-2 : tie.Need-returns-2
 returns-2 c =

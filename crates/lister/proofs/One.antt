@@ -1,10 +1,11 @@
 -- No second answer, and no second content of the buffer: over each public function's own contract. Assumes nothing.
-use mathlib.Core.Path.{_≡_, sym, _∙_}
+use mathlib.Core.Path.{sym, _∙_}
+use Rattle.numbers.specs.One.{One, OneSeen, _and_}
 use Rattle.lister.proofs.list.Reads as list
 use Rattle.lister.proofs.run.Reads as run
 
-pub list-one : (κs : _) (a : _) (r r′ : _) (s s′ : _) → list.Post κs a r s → list.Post κs a r′ s′ → (r ≡ r′) × (s .1 .0 .now ≡ s′ .1 .0 .now)
-list-one κs a r r′ s s′ p q = (p .0 .0 ∙ sym (q .0 .0), p .0 .1 ∙ sym (q .0 .1))
+pub list-one : OneSeen list.Post (λ r s. r and s .1 .0 .now)
+list-one κs a r r′ s s′ p q = cc
 
-pub run-one : (κs : _) (a : _) (r r′ : _) (s s′ : _) → run.Post κs a r s → run.Post κs a r′ s′ → r ≡ r′
+pub run-one : One run.Post
 run-one κs a r r′ s s′ p q = p ∙ sym q

@@ -5,7 +5,7 @@ use lib.IntN.{pos}
 use lib.Signed.{ltZ}
 use mir.Syntax.{w16, w32}
 use mir.Val.{toZ}
-use Rattle.numbers.specs.Numbers.{modZ, wrap32, above, plusMultiple}
+use Rattle.numbers.specs.Numbers.{modZ, wrap32, plusMultiple}
 use Rattle.examples.proofs.Written.{negative}
 
 -- All ones are -1; the highest bit alone is the least number; 40000 lies 25536 below 2^16.
@@ -25,10 +25,6 @@ bits-32 = (refl, refl)
 -- A number below 0 is below 0, and none is below itself.
 pub below : (ltZ (negative 1) (pos 0) ≡ true) × (ltZ (pos 0) (pos 0) ≡ false)
 below = (refl, refl)
-
--- How far 3 lies above 1, and 16384 above the least 2.14 number.
-pub how-far-above : (above (pos 3) (pos 1) ≡ 2) × (above (pos 16384) (negative 32768) ≡ 49152)
-how-far-above = (refl, refl)
 
 -- A whole multiple keeps its sign and is not rounded: 0 plus 1 by -1; 0 plus 1 by 1. A sum beyond the range wraps: 2147418112 plus 65536 by 32767, of which S4 is made.
 pub sum-of-products :

@@ -7,7 +7,7 @@ ghost use lib.Ieee.{toSigned};
 ghost use lib.Signed.{ltZ};
 ghost use mir.Syntax.{w16, w32};
 ghost use mir.Val.{toZ};
-ghost use Rattle.numbers.specs.Numbers.{modZ, wrap32, above, plusMultiple, plus, minus, negated, lesser, greater, fromInteger, fromF2dot14, toF2dot14, isNeg, withSign, times, quotient, over, scaled, timesOver};
+ghost use Rattle.numbers.specs.Numbers.{modZ, wrap32, plusMultiple, plus, minus, negated, lesser, greater, fromInteger, fromF2dot14, toF2dot14, isNeg, withSign, times, quotient, over, timesOver};
 ghost use Rattle.numbers.specs.Floats.{ofFloat, toFloat, wholeBits};
 
 // 16.16
@@ -36,13 +36,6 @@ impl F2Dot14 {
         ensures { λ r. ⌜ r ≡ ltZ (self .0) (rhs .0) ⌝ }
     {
         self.0 < rhs.0
-    }
-
-    // How far self lies above rhs, modulo 2^16: where rhs is not above it, the difference itself.
-    pub fn above(self, rhs: F2Dot14) -> u16
-        ensures { λ r. ⌜ r ≡ above (self .0) (rhs .0) ⌝ }
-    {
-        std::num::wrapping_sub_u16(self.to_bits(), rhs.to_bits())
     }
 }
 
@@ -173,18 +166,24 @@ impl Fixed {
         Fixed::with_sign(self.negative() != rhs.negative(), q)
     }
 
-    // self times a part of a way, over the whole way, both in 2.14: what `mul` and `div` make of them. For a scalar, which lies in 0..1, nothing of it has
-    // a sign, and the factors of 4 that take 2.14 to 16.16 cancel.
-    pub fn scaled(self, part: u16, whole: u16) -> Fixed
-        ensures { λ r. ⌜ r .0 ≡ scaled (self .0) (pos part) (pos whole) ⌝ }
+    // self multiplied by a part, then divided by the whole: what `mul` and `div` make of them. Of a scalar, a part and a whole in 0..1, as in every region of coordinates
+    // in -1..1, nothing has a sign and all fits 32 bits.
+    pub fn scaled(self, part: Fixed, whole: Fixed) -> Fixed
+        ensures { λ r. ⌜ r .0 ≡ over (times (self .0) (part .0)) (whole .0) ⌝ }
     {
         let n = self.to_bits();
+        let p = part.to_bits();
+        let w = whole.to_bits();
         if n <= 0x1_0000 {
-            let m = ((n as u64) * (part as u64) + 0x2000) / 0x4000;
-            return Fixed::from_bits(nearest_quotient(m * 0x4000, whole as u64) as u32);
+            if w <= 0x1_0000 {
+                if p < w {
+                    let m = (n * p + 0x8000) / 0x1_0000;
+                    let q = nearest_quotient((m * 0x1_0000) as u64, w as u64);
+                    return Fixed::from_bits(q as u32);
+                }
+            }
         }
-        self.mul(Fixed::from_bits(4 * (part as u32)))
-            .div(Fixed::from_bits(4 * (whole as u32)))
+        self.mul(part).div(whole)
     }
 
     // self plus a 16.16 number times a whole number, modulo 2^32: nothing is rounded.

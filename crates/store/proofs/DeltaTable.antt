@@ -3,18 +3,18 @@ use mathlib.Core.Path.{_≡_, refl}
 use mathlib.Core.List.{List, [], _∷_, _++_}
 use Prim.Native.Nat.{ℕ}
 use lib.IntN.{pos, negsuc}
-use Rattle.numbers.specs.Numbers.{wrap32, times, over}
+use Rattle.numbers.specs.Numbers.{wrap32, minus, times, over}
 use Rattle.readers.specs.Outcome.{value, refused}
 use Rattle.readers.specs.Reading.{unsignedAt, signedAt, bigEndian, run}
 use Rattle.readers.specs.Walk.{turns, walk}
-use Rattle.store.specs.Region.{tripleAt, skipped, tent, tentAt, axisTurn, regionScalar}
+use Rattle.store.specs.Region.{Triple, tripleAt, skipped, next, tent, tentAt, axisTurn, regionScalar}
 use Rattle.store.specs.Item.{regionList, rowAt, itemAt, regionIndexAt, deltaAt, rowTurn, rowSum, itemSum, deltaIn}
 use Rattle.store.specs.Metric.{advance, bearing, deltaSetIndexOf, mapEntry, storeOf, deltaSetIndexAt, metricDelta}
 use Rattle.store.specs.Footprint.{bytes, partsOf}
 
 -- What every example unfolds.
 unfoldable pub computing : Unit {0}
-unfolding wrap32 times over unsignedAt signedAt bigEndian run turns walk tripleAt skipped tent tentAt axisTurn regionScalar regionList rowAt itemAt regionIndexAt deltaAt rowTurn rowSum itemSum deltaIn mapEntry storeOf deltaSetIndexAt metricDelta
+unfolding wrap32 minus times over unsignedAt signedAt bigEndian run turns walk tripleAt skipped tent tentAt axisTurn regionScalar regionList rowAt itemAt regionIndexAt deltaAt rowTurn rowSum itemSum deltaIn mapEntry storeOf deltaSetIndexAt metricDelta
 computing = tt
 
 -- The fonts: four bytes, an HVAR without maps, whose store stands right behind it, at 20; the region list, and one subtable.
@@ -83,6 +83,14 @@ half-way-up = refl
 pub S1-bearing : metricDelta s1-font 4 bearing 0 (pos 8192 ∷ []) ≡ refused 1
 unfolding computing s1-font
 S1-bearing = refl
+
+-- A scalar that is not one, on the way up to a peak and down from it. Divided first the two would be 29010 and 40435; by the differences of the 2.14 numbers as they are, 29008 and 40427.
+abbrev peaked : Triple
+peaked = record { start = pos 0; peak = pos 12288; end = pos 15360 }
+
+pub up-and-down : (tent peaked (pos 8156) (pos 43707) ≡ next (pos 29009)) × (tent peaked (pos 12518) (pos 43707) ≡ next (pos 40432))
+unfolding computing
+up-and-down = (refl, refl)
 
 -- With 4 bits for the inner index: those are low.
 pub entry-bits : deltaSetIndexOf 4 0x35 ≡ record { outer = 3; inner = 5 }

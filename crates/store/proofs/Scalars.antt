@@ -5,20 +5,20 @@ use mathlib.Core.List.{List}
 use Prim.Native.Nat.{ℕ, zero, suc, _+_, _-_, _*_, _^_, _≤_, _<_}
 use native.Mathlib.Omega.{arith}
 use lib.ListN.{getD}
-use lib.IntN.{ℤ, pos, _-ℤ_}
+use lib.IntN.{ℤ, pos}
 use lib.Signed.{mag, ltZ}
 use mir.Syntax.{w16}
 use mir.Val.{toZ}
 use mir.ValLaws.{toZ-fits}
-use Rattle.numbers.specs.Numbers.{scaled}
-use Rattle.numbers.proofs.Gaps.{gap, one-way, around, lt-gap, nlt-gap, gap-minus}
-use Rattle.numbers.proofs.Laws.{scalar-product}
+use Rattle.numbers.specs.Numbers.{times, over}
+use Rattle.numbers.proofs.Gaps.{gap, one-way, around, lt-gap, nlt-gap}
+use Rattle.numbers.proofs.Laws.{scalar-product, minus-apart}
 use Rattle.readers.specs.Outcome.{value}
 use Rattle.readers.specs.Reading.{Reading, answer, unsignedAt, signedAt, bigEndian, run}
 use Rattle.readers.specs.Walk.{turns, walk}
 use Rattle.readers.proofs.Bytes as Bytes
 use Rattle.readers.proofs.Passed.{answer-is}
-use Rattle.store.specs.Region.{Triple, tripleAt, coordinate, same, skipped, Tent, next, outside, tent, tentAt, under, axisTurn, regionScalar}
+use Rattle.store.specs.Region.{Triple, tripleAt, coordinate, same, skipped, difference, Tent, next, outside, tent, tentAt, under, axisTurn, regionScalar}
 use Rattle.store.proofs.Triples.{tripleIn, triple-was, neither, in-order, gap-small}
 
 abbrev InRange : ℤ → Type 0
@@ -46,7 +46,7 @@ record Small (t : Triple) : Type 0 where
   end : mag (t .end) < 2 ^ 15
 
 module _ (t : Triple) (c : ℤ) (n : ℕ) (l : n ≤ 65536) (small : Small t) (rises : ltZ (t .peak) (t .start) ≡ false) (falls : ltZ (t .end) (t .peak) ≡ false) where
-  rising : ltZ c (t .start) ≡ false → ltZ c (t .peak) ≡ true → InRange (scaled (pos n) (c -ℤ t .start) (t .peak -ℤ t .start))
+  rising : ltZ c (t .start) ≡ false → ltZ c (t .peak) ≡ true → InRange (over (times (pos n) (difference c (t .start))) (difference (t .peak) (t .start)))
   rising x y =
       let a = nlt-gap c (t .start) x in
       let b = lt-gap c (t .peak) y in
@@ -54,10 +54,10 @@ module _ (t : Triple) (c : ℤ) (n : ℕ) (l : n ≤ 65536) (small : Small t) (r
       let w = around (t .start) c (t .peak) in
       let o = one-way c (t .peak) in
       let s = gap-small (t .start) (t .peak) (small .start) (small .peak) in
-      rw (gap-minus (t .start) c a, gap-minus (t .start) (t .peak) d)
+      rw (minus-apart (t .start) c a (omega arith), minus-apart (t .start) (t .peak) d s)
       (scalar-product n (gap (t .start) c * 4) (gap (t .start) (t .peak) * 4) l (omega arith) (omega arith) (omega arith))
 
-  falling : ltZ (t .end) c ≡ false → ltZ c (t .peak) ≡ false → ltZ (t .peak) c ≡ true → InRange (scaled (pos n) (t .end -ℤ c) (t .end -ℤ t .peak))
+  falling : ltZ (t .end) c ≡ false → ltZ c (t .peak) ≡ false → ltZ (t .peak) c ≡ true → InRange (over (times (pos n) (difference (t .end) c)) (difference (t .end) (t .peak)))
   falling x y z =
       let a = nlt-gap (t .end) c x in
       let b = nlt-gap c (t .peak) y in
@@ -65,7 +65,7 @@ module _ (t : Triple) (c : ℤ) (n : ℕ) (l : n ≤ 65536) (small : Small t) (r
       let g = lt-gap (t .peak) c z in
       let w = around (t .peak) c (t .end) in
       let s = gap-small (t .peak) (t .end) (small .peak) (small .end) in
-      rw (gap-minus c (t .end) a, gap-minus (t .peak) (t .end) d)
+      rw (minus-apart c (t .end) a (omega arith), minus-apart (t .peak) (t .end) d s)
       (scalar-product n (gap c (t .end) * 4) (gap (t .peak) (t .end) * 4) l (omega arith) (omega arith) (omega arith))
 
 tent-in-range : (t : Triple) (c s : ℤ) → Small t → InRange s → TentInRange (tent t c s)

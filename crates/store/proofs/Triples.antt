@@ -1,18 +1,17 @@
 -- A region's triple: its six bytes, its order, and the differences of its numbers. Assumes nothing.
-use mathlib.Core.Path.{_≡_, refl, ap, sym, _∙_}
+use mathlib.Core.Path.{_≡_, refl, sym, _∙_}
 use mathlib.Core.Bool.{Bool, true, false, _||_}
 use mathlib.Core.List.{List}
-use Prim.Native.Nat.{ℕ, _+_, _*_, _%_, _^_, _≤_, _<_}
+use Prim.Native.Nat.{ℕ, _+_, _*_, _^_, _≤_, _<_}
 use native.Mathlib.Omega.{arith}
 use borrow.Author.Tests.{leb-true, leb-false}
 use lib.ListN.{length}
 use lib.Dec.{leb}
-use lib.IntN.{ℤ, pos, negsuc, _-ℤ_}
+use lib.IntN.{ℤ, pos, negsuc}
 use lib.Signed.{mag, ltZ}
 use mir.Syntax.{w16}
 use mir.Val.{toZ}
-use Rattle.numbers.specs.Numbers.{modZ}
-use Rattle.numbers.proofs.Gaps.{gap, nlt-gap, gap-minus}
+use Rattle.numbers.proofs.Gaps.{gap}
 use Rattle.readers.specs.Outcome.{Outcome, value, refused}
 use Rattle.readers.specs.Reading.{Reading, answer, _>>=_, unsignedAt, signedAt, bigEndian, run}
 use Rattle.readers.proofs.Bytes.{present, missing, SameBytes}
@@ -100,18 +99,8 @@ in-order t e = neither _ _ (neither _ _ (neither _ _ e .0) .0)
 
 -- ---- a difference of two 2.14 numbers
 
-module _ (x y : ℤ) (p : mag x < 2 ^ 15) (q : mag y < 2 ^ 15) where
-  pub gap-small : gap x y < 0x1_0000
-  gap-small = go x y p q
-    where
-      go : (x y : ℤ) → mag x < 2 ^ 15 → mag y < 2 ^ 15 → gap x y < 0x1_0000
-      go (pos a) (pos b) p q = omega arith
-      go (pos a) (negsuc b) p q = omega arith
-      go (negsuc a) (pos b) p q = omega arith
-      go (negsuc a) (negsuc b) p q = omega arith
-
-  -- Where y is not below x, its 16 bits are the difference itself.
-  pub difference-bits : ltZ y x ≡ false → pos (modZ (y -ℤ x) 0x1_0000) ≡ y -ℤ x
-  difference-bits h =
-      let e : gap x y % 0x1_0000 ≡ gap x y = omega (arith, gap-small) in
-      rw (gap-minus x y (nlt-gap y x h)) (ap pos e)
+pub gap-small : (x y : ℤ) → mag x < 2 ^ 15 → mag y < 2 ^ 15 → gap x y < 0x1_0000
+gap-small (pos a) (pos b) p q = omega arith
+gap-small (pos a) (negsuc b) p q = omega arith
+gap-small (negsuc a) (pos b) p q = omega arith
+gap-small (negsuc a) (negsuc b) p q = omega arith

@@ -4,10 +4,10 @@ use Prim.Native.Nat.{ℕ, _+_, _*_}
 use mathlib.Core.Bool.{Bool, cond, not, _&&_, _||_}
 use mathlib.Core.List.{List}
 use lib.ListN.{getD}
-use lib.IntN.{ℤ, pos, _-ℤ_}
+use lib.IntN.{ℤ, pos}
 use lib.Signed.{ltZ}
 use mir.Syntax.{w16}
-use Rattle.numbers.specs.Numbers.{scaled}
+use Rattle.numbers.specs.Numbers.{minus, fromF2dot14, times, over}
 use Rattle.readers.specs.Reading.{Reading, answer, _>>=_, signedAt}
 use Rattle.readers.specs.Walk.{Turn, walk}
 
@@ -36,18 +36,23 @@ same a b = not (ltZ a b || ltZ b a)
 unfoldable pub skipped : Triple → Bool
 skipped t = ltZ (t .peak) (t .start) || ltZ (t .end) (t .peak) || same (t .peak) (pos 0) || (ltZ (t .start) (pos 0) && ltZ (pos 0) (t .end))
 
+-- a − b, of two 2.14 numbers that are taken to 16.16.
+abbrev pub difference : ℤ → ℤ → ℤ
+difference a b = minus (fromF2dot14 a) (fromF2dot14 b)
+
 -- What a triple makes of the scalar: the region goes on with another; or it is left, with the scalar 0.
 pub data Tent : Type 0 where
   next : ℤ → Tent
   outside : Tent
 
+-- It is left outside start..end; unchanged at peak; below peak multiply by (c − start), then divide by (peak − start); above, by (end − c) and (end − peak).
 unfoldable pub tent : Triple → ℤ → ℤ → Tent
 tent t c scalar =
     cond (skipped t) (next scalar)
     (cond (ltZ c (t .start) || ltZ (t .end) c) outside
     (cond (same c (t .peak)) (next scalar)
-    (cond (ltZ c (t .peak)) (next (scaled scalar (c -ℤ t .start) (t .peak -ℤ t .start)))
-    (next (scaled scalar (t .end -ℤ c) (t .end -ℤ t .peak))))))
+    (cond (ltZ c (t .peak)) (next (over (times scalar (difference c (t .start))) (difference (t .peak) (t .start))))
+    (next (over (times scalar (difference (t .end) c)) (difference (t .end) (t .peak)))))))
 
 -- Outside, the region is read no further.
 abbrev pub under : Tent → (ℤ → Reading ℤ) → Reading ℤ

@@ -10,7 +10,7 @@ ghost use mir.Syntax.{w16};
 ghost use mir.Val.{toZ};
 ghost use Rattle.readers.specs.Reading.{bigEndian, run};
 ghost use Rattle.readers.specs.Answers.{outcomeFixed};
-ghost use Rattle.store.specs.Region.{coordinate, same, skipped, tent, tentAt, regionScalar};
+ghost use Rattle.store.specs.Region.{coordinate, same, skipped, difference, tent, tentAt, regionScalar};
 ghost use Rattle.store.specs.RegionAnswers.{triple, tentOf, axisOutcome};
 
 // What a triple makes of a scalar: the next one; or the coordinate is outside.
@@ -72,6 +72,13 @@ fn skipped(start: F2Dot14, peak: F2Dot14, end: F2Dot14) -> bool
     false
 }
 
+// a - b, by the 16.16 minus.
+fn difference(a: F2Dot14, b: F2Dot14) -> Fixed
+    ensures { λ r. ⌜ r .0 ≡ difference (a .0) (b .0) ⌝ }
+{
+    Fixed::from_f2dot14(a).sub(Fixed::from_f2dot14(b))
+}
+
 fn under_triple(start: F2Dot14, peak: F2Dot14, end: F2Dot14, c: F2Dot14, scalar: Fixed) -> Tent
     ensures { λ r. ⌜ tentOf r ≡ tent (triple start peak end) (c .0) (scalar .0) ⌝ }
 {
@@ -88,9 +95,9 @@ fn under_triple(start: F2Dot14, peak: F2Dot14, end: F2Dot14, c: F2Dot14, scalar:
         return Tent::Next(scalar);
     }
     if c.lt(peak) {
-        return Tent::Next(scalar.scaled(c.above(start), peak.above(start)));
+        return Tent::Next(scalar.scaled(difference(c, start), difference(peak, start)));
     }
-    Tent::Next(scalar.scaled(end.above(c), end.above(peak)))
+    Tent::Next(scalar.scaled(difference(end, c), difference(end, peak)))
 }
 
 // The scalar after the triple at a position.

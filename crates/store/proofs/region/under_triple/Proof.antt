@@ -1,8 +1,7 @@
 -- `store::region::under_triple` meets its contract. Assumes nothing.
+use borrow.Author.Needs.{needs}
 use mathlib.Core.Path.{ap, sym, _∙_}
 use Rattle.store.specs.Region.{tent, next}
-use Rattle.store.proofs.Triples.{in-order, difference-bits}
-use borrow.Author.Needs.{needs}
 use Rattle.store.proofs.region.under_triple.Statement.{statement}
 use Rattle.store.proofs.region.under_triple.Tie as tie
 
@@ -51,11 +50,11 @@ returns-4 c =
 lt-requires-3 : tie.Need-lt-requires-3
 lt-requires-3 c κs = search needs
 
-above-requires : tie.Need-above-requires
-above-requires c κs = search needs
+difference-requires : tie.Need-difference-requires
+difference-requires c κs = search needs
 
-above-requires-2 : tie.Need-above-requires-2
-above-requires-2 c κs = search needs
+difference-requires-2 : tie.Need-difference-requires-2
+difference-requires-2 c κs = search needs
 
 scaled-requires : tie.Need-scaled-requires
 scaled-requires c κs = search needs
@@ -68,27 +67,19 @@ returns-5 c =
     let v = w .before .before in
     let u = v .before .before in
     let t = u .before .before in
-    let s = t .before .before in
-    let kept = sym (t .before .skipped .ensures) ∙ t .if1 .left in
-    let from-start = sym (u .before .lt .ensures) ∙ u .if2 .left in
-    let start-fits = s .good .0 .1 .1 .0 .1 in
     rw (
-      kept,
-      from-start,
+      sym (t .before .skipped .ensures) ∙ t .if1 .left,
+      sym (u .before .lt .ensures) ∙ u .if2 .left,
       sym (v .before .lt2 .ensures) ∙ v .if3 .left,
       sym (w .before .same .ensures) ∙ w .if4 .left,
       sym (x .before .lt3 .ensures) ∙ x .if5 .taken,
-      ← difference-bits (s .args .start .0) (s .args .c .0) start-fits (s .good .1 .1 .1 .0 .1 .1 .0 .1) from-start,
-      ← difference-bits (s .args .start .0) (s .args .peak .0) start-fits (s .good .1 .0 .1 .1 .0 .1) (in-order _ kept .0),
-      ← c .before .before .above .ensures,
-      ← c .before .above2 .ensures,
-    ) (ap next (c .scaled .ensures))
+    ) (ap next (rw (c .before .before .difference .ensures, c .before .difference2 .ensures) at (c .scaled .ensures)))
 
-above-requires-3 : tie.Need-above-requires-3
-above-requires-3 c κs = search needs
+difference-requires-3 : tie.Need-difference-requires-3
+difference-requires-3 c κs = search needs
 
-above-requires-4 : tie.Need-above-requires-4
-above-requires-4 c κs = search needs
+difference-requires-4 : tie.Need-difference-requires-4
+difference-requires-4 c κs = search needs
 
 scaled-requires-2 : tie.Need-scaled-requires-2
 scaled-requires-2 c κs = search needs
@@ -101,21 +92,13 @@ returns-6 c =
     let v = w .before .before in
     let u = v .before .before in
     let t = u .before .before in
-    let s = t .before .before in
-    let kept = sym (t .before .skipped .ensures) ∙ t .if1 .left in
-    let to-end = sym (v .before .lt2 .ensures) ∙ v .if3 .left in
-    let end-fits = s .good .1 .1 .0 .1 .1 .0 .1 in
     rw (
-      kept,
+      sym (t .before .skipped .ensures) ∙ t .if1 .left,
       sym (u .before .lt .ensures) ∙ u .if2 .left,
-      to-end,
+      sym (v .before .lt2 .ensures) ∙ v .if3 .left,
       sym (w .before .same .ensures) ∙ w .if4 .left,
       sym (x .before .lt3 .ensures) ∙ x .if5 .left,
-      ← difference-bits (s .args .c .0) (s .args .end .0) (s .good .1 .1 .1 .0 .1 .1 .0 .1) end-fits to-end,
-      ← difference-bits (s .args .peak .0) (s .args .end .0) (s .good .1 .0 .1 .1 .0 .1) end-fits (in-order _ kept .1),
-      ← c .before .before .above3 .ensures,
-      ← c .before .above4 .ensures,
-    ) (ap next (c .scaled2 .ensures))
+    ) (ap next (rw (c .before .before .difference3 .ensures, c .before .difference4 .ensures) at (c .scaled2 .ensures)))
 
 pub under-triple-spec : {M : Type 1} → statement M
 under-triple-spec =
@@ -130,11 +113,11 @@ under-triple-spec =
     same-requires
     returns-4
     lt-requires-3
-    above-requires
-    above-requires-2
+    difference-requires
+    difference-requires-2
     scaled-requires
     returns-5
-    above-requires-3
-    above-requires-4
+    difference-requires-3
+    difference-requires-4
     scaled-requires-2
     returns-6)

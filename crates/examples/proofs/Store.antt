@@ -1,6 +1,5 @@
 -- Deltas as floats, a bearing through its own map, and an opened MVAR on small fonts, computed by the definitions that the contracts cite. Assumes nothing.
 use mathlib.Core.Path.{_≡_, refl}
-use mathlib.Core.Bool.{true, false}
 use mathlib.Core.List.{List, [], _∷_, _++_}
 use Prim.Native.Nat.{ℕ}
 use lib.IntN.{pos}
@@ -10,7 +9,8 @@ use Rattle.store.specs.Metric.{DeltaSetIndex, deltaSetIndexOf, advance, bearing
 use Rattle.store.specs.Mvar.{Header, Opened, opened, noMvar, openedDelta}
 use Rattle.store.specs.MvarAnswers.{openedFloat}
 use Rattle.store.specs.MvarTags.{hasc}
-use Rattle.store.specs.MvarDeltas.{Deltas, deltasBy}
+use Rattle.store.specs.MvarDeltas.{Deltas, wantedBy}
+use Rattle.store.specs.declared.mvar_deltas.Wanted.the-variants as W
 use Rattle.store.proofs.DeltaTable.{mapped, s1-font, s2-font}
 use Rattle.metrics.proofs.MeasuresTable.{computing-measures, mvarFont, default}
 use Rattle.examples.proofs.Written.{float}
@@ -104,8 +104,8 @@ eleven a d l c x u s t va vd vl = record {
 
 -- Those of all tags, of the horizontal ones, and of ascender and descender alone: what is not wanted is 0.0.
 pub asked-for-measures :
-    (deltasBy true true (openedFloat (kept 100)) ≡ eleven 0x4000_0000 0x4040_0000 0x4080_0000 0x3f80_0000 0x4130_0000 0x40c0_0000 0x40a0_0000 0x40e0_0000 0x4100_0000 0x4110_0000 0x4120_0000)
-    × (deltasBy true false (openedFloat (kept 100)) ≡ eleven 0x4000_0000 0x4040_0000 0x4080_0000 0x3f80_0000 0x4130_0000 0x40c0_0000 0x40a0_0000 0x40e0_0000 0 0 0)
-    × (deltasBy false false (openedFloat (kept 100)) ≡ eleven 0x4000_0000 0x4040_0000 0 0 0 0 0 0 0 0 0)
+    (wantedBy W.All (openedFloat (kept 100)) ≡ eleven 0x4000_0000 0x4040_0000 0x4080_0000 0x3f80_0000 0x4130_0000 0x40c0_0000 0x40a0_0000 0x40e0_0000 0x4100_0000 0x4110_0000 0x4120_0000)
+    × (wantedBy W.Horizontal (openedFloat (kept 100)) ≡ eleven 0x4000_0000 0x4040_0000 0x4080_0000 0x3f80_0000 0x4130_0000 0x40c0_0000 0x40a0_0000 0x40e0_0000 0 0 0)
+    × (wantedBy W.Ascents (openedFloat (kept 100)) ≡ eleven 0x4000_0000 0x4040_0000 0 0 0 0 0 0 0 0 0)
 unfolding deltas
 asked-for-measures = (refl, refl, refl)

@@ -2,7 +2,7 @@
 // A number is passed whole: what computes with it goes through its methods, of which `to_bits`, `from_f2dot14`, `to_f32` and `lt` open it.
 ghost use mathlib.Core.Path.{_≡_};
 ghost use Prim.Native.Nat.{_^_, _≤_, min};
-ghost use lib.IntN.{pos, natAbs};
+ghost use lib.IntN.{natAbs};
 ghost use lib.Ieee.{toSigned};
 ghost use lib.Signed.{ltZ};
 ghost use mir.Syntax.{w16, w32};

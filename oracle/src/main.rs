@@ -279,7 +279,7 @@ fn cases(seed: &str, count: &str, subject: &str) -> Option<Box<dyn Iterator<Item
 /// How many lines of each subject the stored sample has; of the metrics it has half as many.
 const SAMPLE: usize = 3000;
 
-/// How many of them are of avar. These, and what else came later, stand behind the others.
+/// Lines with an avar, behind those of the subjects.
 const SAMPLE_OF_AVAR: usize = 500;
 
 fn run(words: &[&str]) -> Option<bool> {
@@ -295,6 +295,7 @@ fn run(words: &[&str]) -> Option<bool> {
             write_all(axes::cases::many_axes().into_iter());
             write_all(store::cases::outer_bits().into_iter());
             write_all([store::TAG_CASE.to_string()].into_iter());
+            write_all(store::cases::no_variation().into_iter());
         }
         ["answers"] => {
             let answer = |line: String| {

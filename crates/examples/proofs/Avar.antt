@@ -2,7 +2,7 @@
 use mathlib.Core.Path.{_≡_, refl}
 use mathlib.Core.List.{List, [], _∷_, _++_}
 use Prim.Native.Nat.{ℕ}
-use lib.IntN.{ℤ, pos}
+use lib.IntN.{pos}
 use lib.ListN.{take}
 use Rattle.numbers.specs.Numbers.{wrap32, plus, minus, timesOver}
 use Rattle.readers.specs.Reading.{unsignedAt, signedAt, bigEndian, run}

@@ -6,10 +6,10 @@ use lib.IntN.{pos}
 use lib.ListN.{drop}
 use Rattle.readers.specs.Outcome.{value, refused, number, valueOr}
 use Rattle.store.specs.Metric.{DeltaSetIndex, deltaSetIndexOf, advance, bearing, metricDelta, floatOf}
-use Rattle.store.specs.Mvar.{Header, Opened, opened, noMvar, openedDelta}
-use Rattle.store.specs.MvarAnswers.{openedFloat}
+use Rattle.store.specs.Mvar.{Header, Opened, opened, noMvar, openedDelta, openedFloat}
 use Rattle.store.specs.MvarTags.{hasc}
-use Rattle.store.specs.MvarDeltas.{Deltas, wantedBy}
+use Rattle.store.specs.MvarDeltas.{Deltas}
+use Rattle.store.specs.MvarDeltasAnswers.{wantedBy}
 use Rattle.store.specs.declared.mvar_deltas.Wanted.the-variants as W
 use Rattle.store.proofs.DeltaTable.{mapped, s1-font, s2-font}
 use Rattle.metrics.proofs.MeasuresTable.{computing-measures, mvarFont, default}
@@ -41,10 +41,10 @@ pub each-by-its-own-map :
 unfolding deltas
 each-by-its-own-map = (refl, refl, refl)
 
--- An entry of a map with 4 inner bits: the outer index keeps 16 bits of it, neither more nor fewer.
 abbrev indexed : ℕ → ℕ → DeltaSetIndex
 indexed outer inner = record { outer = outer; inner = inner }
 
+-- An entry of a map with 4 inner bits: the outer index keeps 16 bits of it, neither more nor fewer.
 pub outer-keeps-16-bits :
     (deltaSetIndexOf 4 0x8_0005 ≡ indexed 0x8000 5)
     × (deltaSetIndexOf 4 0xf_ffff ≡ indexed 0xffff 15)
@@ -105,7 +105,7 @@ eleven a d l c x u s t va vd vl = record {
 -- Those of all tags, of the horizontal ones, and of ascender and descender alone: what is not wanted is 0.0.
 pub asked-for-measures :
     (wantedBy W.All (openedFloat (kept 100)) ≡ eleven 0x4000_0000 0x4040_0000 0x4080_0000 0x3f80_0000 0x4130_0000 0x40c0_0000 0x40a0_0000 0x40e0_0000 0x4100_0000 0x4110_0000 0x4120_0000)
-    × (wantedBy W.Horizontal (openedFloat (kept 100)) ≡ eleven 0x4000_0000 0x4040_0000 0x4080_0000 0x3f80_0000 0x4130_0000 0x40c0_0000 0x40a0_0000 0x40e0_0000 0 0 0)
+    × (wantedBy W.AllButVertical (openedFloat (kept 100)) ≡ eleven 0x4000_0000 0x4040_0000 0x4080_0000 0x3f80_0000 0x4130_0000 0x40c0_0000 0x40a0_0000 0x40e0_0000 0 0 0)
     × (wantedBy W.Ascents (openedFloat (kept 100)) ≡ eleven 0x4000_0000 0x4040_0000 0 0 0 0 0 0 0 0 0)
 unfolding deltas
 asked-for-measures = (refl, refl, refl)

@@ -1,4 +1,4 @@
--- MVAR's value tags by their letters (OpenType, "MVAR — Metrics Variations Table").
+-- Value tags of MVAR by their letters (OpenType, "MVAR — Metrics Variations Table").
 use Prim.Native.Nat.{ℕ, _+_, _*_}
 use Prim.Native.String.{String, [] as []ˢ, _∷_ as _∷ˢ_}
 use Prim.Native.Char.{code}
@@ -9,10 +9,11 @@ abbrev behind : ℕ → String → ℕ
 behind n []ˢ = n
 behind n (c ∷ˢ s) = behind (256 * n + code c) s
 
+-- The number that a tag's four letters make.
 abbrev pub tag : String → ℕ
 tag = behind 0
 
--- In the order of swash's `mvar_tags`.
+-- The 28 that swash has, in the order of its `mvar_tags`.
 abbrev pub lettered : List ℕ
 lettered =
     tag "hasc" ∷ tag "hdsc" ∷ tag "hlgp" ∷ tag "hcrs" ∷ tag "hcrn" ∷ tag "hcof" ∷ tag "hcla" ∷ tag "hcld"

@@ -4,7 +4,7 @@ use native.Mathlib.Omega.{arith}
 use lib.ListN.{length, length-append}
 use lib.IntN.{ℤ, pos, negsuc}
 use lib.Signed.{mag}
-use Rattle.listing.specs.Text.{ascii, digits, decimal, signed, hex8}
+use Rattle.listing.specs.Text.{decimal, signed, hex8}
 use Rattle.listing.specs.Lines.{line, countsLine, axisLine, refusedLine}
 use Rattle.listing.proofs.Digits.{length-digits, places-short}
 

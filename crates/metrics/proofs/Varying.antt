@@ -9,11 +9,10 @@ use lib.ListN.{length, drop}
 use lib.IntN.{ℤ}
 use lib.Ieee.{Float}
 use borrow.Author.Tests.{eq-eqb, ne-eqb}
-use Rattle.readers.specs.Outcome.{Outcome, value, refused, valueOr, number}
+use Rattle.readers.specs.Outcome.{Outcome, valueOr, number}
 use Rattle.readers.specs.Reading.{run}
 use Rattle.store.specs.Metric.{floatOf}
-use Rattle.store.specs.Mvar.{Header, headerAt, opened, noMvar}
-use Rattle.store.specs.MvarAnswers.{openedFloat}
+use Rattle.store.specs.Mvar.{Header, headerAt, opened, noMvar, openedFloat}
 use Rattle.store.specs.MvarDeltas.{deltasBy}
 use Rattle.store.proofs.Opened.{opened-answers, read-by-number, refused-by-number}
 use Rattle.metrics.specs.Measures.{Metrics, Follows, always, vertically, never, each, shift, shifted, opens, varies, measureDelta}
@@ -63,8 +62,8 @@ module _ (delta : ℕ → Float) (m : Metrics) where
   by-flag true = refl
   by-flag false = refl
 
-  pub all-asked : (horizontal vertical : Bool) → horizontal ≡ true → vertical ≡ m .hasVerticalMetrics → shifted (tagged (deltasBy horizontal vertical delta)) m ≡ shifted delta m
-  all-asked horizontal vertical e f = ap₂ (λ h v. shifted (tagged (deltasBy h v delta)) m) e f ∙ by-flag (m .hasVerticalMetrics)
+  pub all-asked : (others vertical : Bool) → others ≡ true → vertical ≡ m .hasVerticalMetrics → shifted (tagged (deltasBy others vertical delta)) m ≡ shifted delta m
+  all-asked others vertical e f = ap₂ (λ h v. shifted (tagged (deltasBy h v delta)) m) e f ∙ by-flag (m .hasVerticalMetrics)
 
 -- With vertical metrics: all but the vertical measures, then those.
 module _ (delta : ℕ → Float) where

@@ -1,4 +1,4 @@
--- What the structs and enums of `metrics` stand for, and a step on the way.
+-- What the structs and enums of `metrics` stand for, and steps on the way.
 use Prim.Native.Nat.{ℕ}
 use mathlib.Core.Bool.{cond}
 use mathlib.Core.Option.{Option, none, some}
@@ -68,7 +68,7 @@ shiftVertical delta (always t) x = x
 shiftVertical delta (vertically t) x = plus x (delta t)
 shiftVertical delta never x = x
 
--- The delta of a tag, among deltas by their tags.
+-- The delta of a tag, among deltas by their tags; 0.0 of any other tag, which no measure follows.
 abbrev pub tagged : Deltas → ℕ → Float
 tagged d tag =
     (cond (eqb tag T.hasc) (d .hasc)

@@ -4,7 +4,7 @@ use store::mvar_deltas::MeasureDeltas;
 use store::mvar_deltas::Wanted;
 ghost use mathlib.Core.Path.{_≡_};
 ghost use mathlib.Core.Bool.{true, false};
-ghost use Rattle.store.specs.MvarDeltas.{deltasOf, wantsHorizontal, wantsVertical};
+ghost use Rattle.store.specs.MvarDeltasAnswers.{deltasOf, wantsOthers, wantsVertical};
 ghost use Rattle.metrics.specs.Scale.{scaleFor};
 ghost use Rattle.metrics.specs.Measures.{each, shift, shifted, materializedMetrics, linearScaled, scaledMetrics};
 ghost use Rattle.metrics.specs.Structs.{metricsOf, shiftVertical, tagged};
@@ -89,12 +89,12 @@ pub(crate) fn scale_for(ppem: f32, units_per_em: u16) -> f32
 
 // Which deltas shift the measures.
 fn wanted_for(vertical: bool) -> Wanted
-    ensures { λ r. ⌜ (wantsHorizontal r ≡ true) × (wantsVertical r ≡ vertical) ⌝ }
+    ensures { λ r. ⌜ (wantsOthers r ≡ true) × (wantsVertical r ≡ vertical) ⌝ }
 {
     if vertical {
         return Wanted::All;
     }
-    Wanted::Horizontal
+    Wanted::AllButVertical
 }
 
 // All but the vertical measures, with their deltas.

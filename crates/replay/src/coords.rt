@@ -93,7 +93,7 @@ pub(crate) fn put_settings(
     )
 }
 
-// The largest 2.14 number stands where none was written: no coordinate has it.
+// The largest 2.14 number stands where none was written: no coordinate has it but by an avar.
 fn put_coords(
     table: &[u8],
     font: &[u8],

@@ -84,10 +84,10 @@ pub S1-bearing : metricDelta s1-font 4 bearing 0 (pos 8192 ∷ []) ≡ refused 1
 unfolding computing s1-font
 S1-bearing = refl
 
--- A scalar that is not one, on the way up to a peak and down from it. Divided first the two would be 29010 and 40435; by the differences of the 2.14 numbers as they are, 29008 and 40427.
 abbrev peaked : Triple
 peaked = record { start = pos 0; peak = pos 12288; end = pos 15360 }
 
+-- A scalar that is not one, on the way up to a peak and down from it. Divided first the two would be 29010 and 40435; by the differences of the 2.14 numbers as they are, 29008 and 40427.
 pub up-and-down : (tent peaked (pos 8156) (pos 43707) ≡ next (pos 29009)) × (tent peaked (pos 12518) (pos 43707) ≡ next (pos 40432))
 unfolding computing
 up-and-down = (refl, refl)

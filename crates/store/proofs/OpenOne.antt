@@ -21,9 +21,10 @@ use denote.Triple.Clauses.{ensured, lasts}
 use Rattle.readers.specs.Answers.{outcomeFixed}
 use Rattle.readers.specs.declared.FixedAnswer.{FixedAnswer}
 use Rattle.readers.proofs.One.{oneFixed}
-use Rattle.store.specs.Mvar.{Opened, openedDelta}
-use Rattle.store.specs.MvarAnswers.{openedOf, openedFloat, liesAt, Opens}
-use Rattle.store.specs.MvarDeltas.{Deltas, deltasOf, wantedBy}
+use Rattle.store.specs.Mvar.{Opened, openedDelta, openedFloat}
+use Rattle.store.specs.MvarAnswers.{openedOf, liesAt, Opens}
+use Rattle.store.specs.MvarDeltas.{Deltas}
+use Rattle.store.specs.MvarDeltasAnswers.{deltasOf, wantedBy}
 use Rattle.store.specs.declared.mvar.Mvar.{Mvar}
 use Rattle.store.specs.declared.mvar_deltas.MeasureDeltas.{MeasureDeltas}
 use Rattle.store.specs.declared.mvar_deltas.Wanted.{Wanted}
@@ -62,7 +63,7 @@ pub delta-one : {M : Type 1} (𝓤 : URA M) (H : Heap 𝓤) (A : Atoms 𝓤) (me
     → ent 𝓤 (conj 𝓤 (delta-clauses 𝓤 H A mem run κ m tag r) (delta-clauses 𝓤 H A mem run κ m tag r′)) (fact 𝓤 (r ≡ r′))
 delta-one 𝓤 H A mem run κ m tag r r′ = both 𝓤 _ _ (r ≡ r′) (delta-said 𝓤 H A mem run κ m tag r) (delta-said 𝓤 H A mem run κ m tag r′) (λ p q. p ∙ sym q)
 
--- Deltas are the same where each of them is.
+-- The struct that holds these deltas.
 abbrev made : Deltas → MeasureDeltas
 made d = record { hasc = d .hasc; hdsc = d .hdsc; hlgp = d .hlgp; cpht = d .cpht; xhgt = d .xhgt; undo = d .undo; stro = d .stro; unds = d .unds; vasc = d .vasc; vdsc = d .vdsc; vlgp = d .vlgp }
 

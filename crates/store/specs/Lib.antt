@@ -9,4 +9,5 @@ pub mod Mvar
 pub mod MvarAnswers
 pub mod MvarTags
 pub mod MvarDeltas
+pub mod MvarDeltasAnswers
 pub mod Footprint

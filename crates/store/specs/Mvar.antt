@@ -6,10 +6,11 @@ use mathlib.Core.List.{List, []}
 use lib.ListN.{drop}
 use lib.Dec.{ltb, eqb}
 use lib.IntN.{ℤ}
+use lib.Ieee.{Float}
 use Rattle.readers.specs.Outcome.{Outcome, value, onward}
 use Rattle.readers.specs.Reading.{Reading, answer, refuse, _>>=_, _>>_, check, unsignedAt, run}
 use Rattle.store.specs.Item.{deltaIn}
-use Rattle.store.specs.Metric.{DeltaSetIndex}
+use Rattle.store.specs.Metric.{DeltaSetIndex, floatOf}
 
 -- The numbers of the header.
 pub record Header : Type 0 where
@@ -85,3 +86,7 @@ noMvar = record { table = []; coords = []; header = noHeader }
 -- The delta of a tag of an opened MVAR, whatever it holds.
 unfoldable pub openedDelta : Opened → ℕ → Outcome ℤ
 openedDelta mvar tag = run (mvar .table) (tagDelta (mvar .header) (mvar .coords) tag)
+
+-- The same as a float: 0.0 on any refusal.
+abbrev pub openedFloat : Opened → ℕ → Float
+openedFloat mvar tag = floatOf (openedDelta mvar tag)

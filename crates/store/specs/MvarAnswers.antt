@@ -4,13 +4,11 @@ use mathlib.Core.Path.{_≡_}
 use mathlib.Core.List.{List}
 use denote.Ref.{RefT, now}
 use lib.IntN.{ℤ}
-use lib.Ieee.{Float}
 use lib.ListN.{length}
 use Rattle.readers.specs.Outcome.{Outcome, value, valueOr, number}
 use Rattle.readers.specs.Answers.{refusal}
 use Rattle.store.specs.Mvar as Mvar
-use Rattle.store.specs.Metric.{floatOf}
-use Rattle.store.specs.Mvar.{Opened, opened, noMvar, openedDelta}
+use Rattle.store.specs.Mvar.{Opened, opened, noMvar}
 use Rattle.store.specs.declared.mvar.Header.{Header}
 use Rattle.store.specs.declared.mvar.HeaderAnswer.{HeaderAnswer}
 use Rattle.store.specs.declared.mvar.HeaderAnswer.the-variants as H
@@ -38,10 +36,6 @@ openedAs table coords size count store = record { table = table; coords = coords
 
 abbrev pub openedOf : Mvar → Opened
 openedOf m = openedAs (now (m .«data»)) (now (m .coords)) (m .«rec_size») (m .«rec_count») (m .store)
-
--- The delta of a tag that it has, as a float: 0.0 on any refusal.
-abbrev pub openedFloat : Opened → ℕ → Float
-openedFloat mvar tag = floatOf (openedDelta mvar tag)
 
 -- A part lies in the whole, n elements from its start; where an empty one lies is not said.
 abbrev pub liesAt : {A : Type 0} → RefT (List A) → RefT (List A) → ℕ → Type 0

@@ -1,7 +1,7 @@
--- Value tags of MVAR (OpenType, MVAR, on value tags).
+-- The eleven value tags that shift a font's measures, each the number that its four letters make (OpenType, MVAR, on value tags).
 use Prim.Native.Nat.{ℕ}
 
--- The value tags, each the number that its four letters make. Horizontal ascender, descender, line gap.
+-- Horizontal ascender, descender, line gap.
 abbrev pub hasc : ℕ
 hasc = 0x6861_7363
 

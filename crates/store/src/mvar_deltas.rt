@@ -3,16 +3,18 @@ use crate::mvar::tag_float;
 use crate::mvar_tags::*;
 ghost use mathlib.Core.Path.{_≡_};
 ghost use mathlib.Core.Bool.{false};
-ghost use Rattle.store.specs.MvarAnswers.{openedAs, openedFloat};
-ghost use Rattle.store.specs.MvarDeltas.{deltasBy, deltasOf, wantedBy, withHorizontal, withVertical};
+ghost use Rattle.store.specs.Mvar.{openedFloat};
+ghost use Rattle.store.specs.MvarAnswers.{openedAs};
+ghost use Rattle.store.specs.MvarDeltas.{deltasBy};
+ghost use Rattle.store.specs.MvarDeltasAnswers.{deltasOf, wantedBy, withOthers, withVertical};
 
 // Which deltas are asked for.
 pub enum Wanted {
     // Ascender and descender alone, as a synthesized advance takes them.
     Ascents,
-    // Of all horizontal measures.
-    Horizontal,
-    // Of the vertical ones too.
+    // Of all measures but the three vertical ones.
+    AllButVertical,
+    // Of those too.
     All,
 }
 
@@ -57,7 +59,7 @@ fn ascent_deltas<'a>(
     }
 }
 
-fn horizontal_deltas<'a>(
+fn other_deltas<'a>(
     ascents: MeasureDeltas,
     data: &'a [u8],
     coords: &'a [i16],
@@ -65,7 +67,7 @@ fn horizontal_deltas<'a>(
     rec_count: u16,
     store: u16,
 ) -> MeasureDeltas
-    ensures { λ r. ⌜ deltasOf r ≡ withHorizontal (openedFloat (openedAs (now («data» .entry)) (now (coords .entry)) «rec_size» «rec_count» store)) (deltasOf ascents) ⌝ }
+    ensures { λ r. ⌜ deltasOf r ≡ withOthers (openedFloat (openedAs (now («data» .entry)) (now (coords .entry)) «rec_size» «rec_count» store)) (deltasOf ascents) ⌝ }
 {
     let mut d = ascents;
     d.hlgp = tag_float(HLGP, data, coords, rec_size, rec_count, store);
@@ -78,16 +80,16 @@ fn horizontal_deltas<'a>(
 }
 
 fn vertical_deltas<'a>(
-    horizontal: MeasureDeltas,
+    others: MeasureDeltas,
     data: &'a [u8],
     coords: &'a [i16],
     rec_size: u16,
     rec_count: u16,
     store: u16,
 ) -> MeasureDeltas
-    ensures { λ r. ⌜ deltasOf r ≡ withVertical (openedFloat (openedAs (now («data» .entry)) (now (coords .entry)) «rec_size» «rec_count» store)) (deltasOf horizontal) ⌝ }
+    ensures { λ r. ⌜ deltasOf r ≡ withVertical (openedFloat (openedAs (now («data» .entry)) (now (coords .entry)) «rec_size» «rec_count» store)) (deltasOf others) ⌝ }
 {
-    let mut d = horizontal;
+    let mut d = others;
     d.vasc = tag_float(VASC, data, coords, rec_size, rec_count, store);
     d.vdsc = tag_float(VDSC, data, coords, rec_size, rec_count, store);
     d.vlgp = tag_float(VLGP, data, coords, rec_size, rec_count, store);
@@ -108,10 +110,10 @@ pub(crate) fn tag_deltas<'a>(
     let ascents = ascent_deltas(data, coords, rec_size, rec_count, store);
     match wanted {
         Wanted::Ascents => ascents,
-        Wanted::Horizontal => horizontal_deltas(ascents, data, coords, rec_size, rec_count, store),
+        Wanted::AllButVertical => other_deltas(ascents, data, coords, rec_size, rec_count, store),
         Wanted::All => {
-            let horizontal = horizontal_deltas(ascents, data, coords, rec_size, rec_count, store);
-            vertical_deltas(horizontal, data, coords, rec_size, rec_count, store)
+            let others = other_deltas(ascents, data, coords, rec_size, rec_count, store);
+            vertical_deltas(others, data, coords, rec_size, rec_count, store)
         }
     }
 }

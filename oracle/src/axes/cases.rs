@@ -568,7 +568,7 @@ pub fn sample(seed: u64, count: usize) -> Vec<String> {
 
 /// Instances of more than 32 axes: in the first each axis has a coordinate of its own, in the second the
 /// last axis is refused. With an avar that has a map for the last axis alone. Settings of the first, the
-/// 32nd and the last axis. They stand behind the sample, whose lines stay as they are.
+/// 32nd and the last axis.
 pub fn many_axes() -> Vec<String> {
     let tag = |i: i64| u32::from_be_bytes(*b"ax00") + i as u32;
     let least = |i: i64| if i == 32 { MIN } else { -(i + 1) << 16 };

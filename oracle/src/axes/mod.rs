@@ -140,7 +140,7 @@ fn with_avar(first: &str, words: &[&str]) -> Option<Case> {
     })
 }
 
-/// What a list that is written to holds before: no float of a 16.16 number, no coordinate.
+/// What a list that is written to holds before: no float of a 16.16 number, no coordinate but by an avar.
 const FLOAT_MARK: u32 = 0x7f7f_ffff;
 const COORD_MARK: i64 = 32767;
 

@@ -1139,8 +1139,7 @@ pub fn sample(seed: u64, count: usize) -> Vec<String> {
 }
 
 /// A map of 17 entries, for advances and bearings alike, over a store of one subtable: the outer index
-/// of entry g is 2^g. It keeps its low 16 bits: each is refused but the last, which is read as 0. They
-/// stand behind the sample, whose lines stay as they are.
+/// of entry g is 2^g. It keeps its low 16 bits: each is refused but the last, which is read as 0.
 pub fn outer_bits() -> Vec<String> {
     let entries: String = (0..17).map(|g| format!("{:08x}", 2u32 << g)).collect();
     let head = "0000000000010000000000580000001000000010";
@@ -1152,4 +1151,15 @@ pub fn outer_bits() -> Vec<String> {
         lines.extend([0, 8, 15, 16].map(|g| ask(name, g)));
     }
     lines
+}
+
+/// OpenType's index for no variation, outer and inner 0xffff, as a map's entry over a store of one
+/// subtable.
+pub fn no_variation() -> Vec<String> {
+    let head = "0000000000010000000000180000001000000000";
+    let store = "00010000000c0001000000100000000100010000000100000a";
+    let font = format!("{head}003f0001ffffffff{store}");
+    ["advance_fixed", "advance_delta"]
+        .map(|name| format!("{name} {font} 4 0 -"))
+        .to_vec()
 }

@@ -2,9 +2,9 @@
 use mathlib.Core.Path.{ap, _∙_}
 use borrow.Author.Needs.{needs}
 use Rattle.readers.specs.Outcome.{valueOr}
-use Rattle.store.specs.Mvar.{opened, noMvar}
-use Rattle.store.specs.MvarAnswers.{openedFloat}
-use Rattle.store.specs.MvarDeltas.{Deltas, wantsHorizontal, wantsVertical}
+use Rattle.store.specs.Mvar.{opened, noMvar, openedFloat}
+use Rattle.store.specs.MvarDeltas.{Deltas}
+use Rattle.store.specs.MvarDeltasAnswers.{wantsOthers, wantsVertical}
 use Rattle.metrics.specs.Measures.{shifted}
 use Rattle.metrics.specs.Structs.{metricsOf, tagged}
 use Rattle.metrics.proofs.Varying.{no-mvar, no-coordinates, not-opened, all-asked, shifts}
@@ -42,7 +42,7 @@ returns-4 c =
     let delta = openedFloat (valueOr noMvar (opened (a .font .now) (a .mvar) (a .coords .now))) in
     c .shifted .ensures
     ∙ ap (λ (d : Deltas). shifted (tagged d) (metricsOf (a .unvaried))) (c .before .before .opened-deltas .ensures .0)
-    ∙ all-asked delta (metricsOf (a .unvaried)) (wantsHorizontal (asked .result)) (wantsVertical (asked .result)) (asked .ensures .0) (asked .ensures .1)
+    ∙ all-asked delta (metricsOf (a .unvaried)) (wantsOthers (asked .result)) (wantsVertical (asked .result)) (asked .ensures .0) (asked .ensures .1)
     ∙ shifts (a .font .now) (a .mvar) (a .coords .now) (λ delta. shifted delta (metricsOf (a .unvaried))) (metricsOf (a .unvaried)) _ (c .before .before .opened-deltas .ensures .1) (c .before .if3 .left) (c .before .before .before .before .before .before .if1 .left) (c .before .before .before .before .before .if2 .left)
 
 pub materialize-metrics-spec : {M : Type 1} → statement M

@@ -1,7 +1,7 @@
 -- `metrics::measures::shifted` meets its contract. Assumes nothing.
 use mathlib.Core.Path.{ap, sym, _∙_}
 use borrow.Author.Needs.{needs}
-use Rattle.store.specs.MvarDeltas.{deltasOf}
+use Rattle.store.specs.MvarDeltasAnswers.{deltasOf}
 use Rattle.metrics.proofs.Varying.{two-steps}
 use Rattle.metrics.specs.Measures.{each, shift}
 use Rattle.metrics.specs.Structs.{metricsOf, shiftVertical, tagged}

@@ -1,7 +1,8 @@
 -- `store::mvar_deltas::tag_deltas` meets its contract. Assumes nothing.
 use mathlib.Core.Path.{ap, sym, _∙_}
-use Rattle.store.specs.MvarAnswers.{openedAs, openedFloat}
-use Rattle.store.specs.MvarDeltas.{withHorizontal, withVertical, wantedBy}
+use Rattle.store.specs.Mvar.{openedFloat}
+use Rattle.store.specs.MvarAnswers.{openedAs}
+use Rattle.store.specs.MvarDeltasAnswers.{withOthers, withVertical, wantedBy}
 use borrow.Author.Needs.{needs}
 use Rattle.store.proofs.mvar_deltas.tag_deltas.Statement.{statement}
 use Rattle.store.proofs.mvar_deltas.tag_deltas.Tie as tie
@@ -15,14 +16,14 @@ enum-told c = search needs
 enum-told-2 : tie.Need-enum-told-2
 enum-told-2 c = search needs
 
-horizontal-deltas-requires : tie.Need-horizontal-deltas-requires
-horizontal-deltas-requires c κs = search needs
+other-deltas-requires : tie.Need-other-deltas-requires
+other-deltas-requires c κs = search needs
 
 enum-told-3 : tie.Need-enum-told-3
 enum-told-3 c = search needs
 
-horizontal-deltas-requires-2 : tie.Need-horizontal-deltas-requires-2
-horizontal-deltas-requires-2 c κs = search needs
+other-deltas-requires-2 : tie.Need-other-deltas-requires-2
+other-deltas-requires-2 c κs = search needs
 
 vertical-deltas-requires : tie.Need-vertical-deltas-requires
 vertical-deltas-requires c κs = search needs
@@ -34,14 +35,14 @@ returns-2 : tie.Need-returns-2
 returns-2 c =
     let a = c .before .before .before .before .before .args in
     let delta = openedFloat (openedAs (a .«data» .now) (a .coords .now) (a .rec-size) (a .rec-count) (a .store)) in
-    c .horizontal-deltas .ensures ∙ ap (withHorizontal delta) (c .before .before .before .ascent-deltas .ensures) ∙ ap (λ w. wantedBy w delta) (sym (c .before .enum-told2 .given .1))
+    c .other-deltas .ensures ∙ ap (withOthers delta) (c .before .before .before .ascent-deltas .ensures) ∙ ap (λ w. wantedBy w delta) (sym (c .before .enum-told2 .given .1))
 
 returns-3 : tie.Need-returns-3
 returns-3 c =
     let a = c .before .before .before .before .before .before .args in
     let delta = openedFloat (openedAs (a .«data» .now) (a .coords .now) (a .rec-size) (a .rec-count) (a .store)) in
     c .vertical-deltas .ensures
-    ∙ ap (withVertical delta) (c .before .horizontal-deltas2 .ensures ∙ ap (withHorizontal delta) (c .before .before .before .before .ascent-deltas .ensures))
+    ∙ ap (withVertical delta) (c .before .other-deltas2 .ensures ∙ ap (withOthers delta) (c .before .before .before .before .ascent-deltas .ensures))
     ∙ ap (λ w. wantedBy w delta) (sym (c .before .before .enum-told3 .given .1))
 
 pub tag-deltas-spec : {M : Type 1} → statement M
@@ -51,9 +52,9 @@ tag-deltas-spec =
     ascent-deltas-requires
     enum-told
     enum-told-2
-    horizontal-deltas-requires
+    other-deltas-requires
     enum-told-3
-    horizontal-deltas-requires-2
+    other-deltas-requires-2
     vertical-deltas-requires
     returns
     returns-2

@@ -1,8 +1,8 @@
--- `store::mvar_deltas::horizontal_deltas` meets its contract. Assumes nothing.
+-- `store::mvar_deltas::other_deltas` meets its contract. Assumes nothing.
 use mathlib.Core.Path.{refl}
 use borrow.Author.Needs.{needs}
-use Rattle.store.proofs.mvar_deltas.horizontal_deltas.Statement.{statement}
-use Rattle.store.proofs.mvar_deltas.horizontal_deltas.Tie as tie
+use Rattle.store.proofs.mvar_deltas.other_deltas.Statement.{statement}
+use Rattle.store.proofs.mvar_deltas.other_deltas.Tie as tie
 
 tag-float-requires : tie.Need-tag-float-requires
 tag-float-requires c κs = search needs
@@ -31,8 +31,8 @@ returns c =
     let d1 = d2 .before in
     rw (d1 .tag-float .ensures, d2 .tag-float2 .ensures, d3 .tag-float3 .ensures, d4 .tag-float4 .ensures, d5 .tag-float5 .ensures, c .tag-float6 .ensures) refl
 
-pub horizontal-deltas-spec : {M : Type 1} → statement M
-horizontal-deltas-spec =
+pub other-deltas-spec : {M : Type 1} → statement M
+other-deltas-spec =
     tie.close
     (tie.spec
     tag-float-requires

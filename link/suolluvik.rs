@@ -9,7 +9,7 @@
 
 // Nothing checks these against the library's source: they say what suolluvik.h says.
 mod exports {
-    unsafe extern "C" {
+    extern "C" {
         pub fn suolluvik_advance_delta_fixed(
             font: *const u8,
             font_len: usize,

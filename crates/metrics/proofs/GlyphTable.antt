@@ -14,7 +14,7 @@ use Rattle.metrics.specs.Glyph.{GlyphMetrics, hasVariations, withScale, 
 use Rattle.metrics.proofs.MeasuresTable.{computing-measures, mvarFont, default}
 
 -- H1's font, with a map for bearings at its end: the advance of glyph 0 varies by 10 at all coordinates, that of glyph 1 by 11, and every bearing by 12.
-abbrev font : List ℕ
+abbrev pub font : List ℕ
 font = mapped 0x33 ++ (0 ∷ 7 ∷ 0 ∷ 1 ∷ 2 ∷ [])
 
 abbrev metricsWith : ℕ → Bool → ℕ → Vertical → Float → GlyphMetrics

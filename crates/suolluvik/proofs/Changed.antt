@@ -4,25 +4,25 @@ use mathlib.Core.Path.{_≡_, refl, ap, _∙_}
 use mathlib.Core.Bool.{Bool}
 use mathlib.Core.List.{List}
 use native.Mathlib.Omega.{arith}
-use borrow.Author.Tests.{le-leb, lt-leb}
+use borrow.Author.Tests.{eq-eqb, ne-eqb}
 use lib.Ieee.{Float, nan}
 use lib.ListN.{length, getD}
 use Rattle.readers.specs.Outcome.{number}
 use Rattle.readers.proofs.Lent.{fill-length}
 use Rattle.metrics.specs.Measures.{Metrics}
-use Rattle.suolluvik.specs.Measures.{recordIn, measures, roomIn, put, changed}
+use Rattle.suolluvik.specs.Measures.{recordIn, measures, sizeIn, put, changed}
 
 -- While the measures are written, the list still has a place for each.
 pub has-place : (m : Metrics) (l : List Float) (k : ℕ) → k < 13 → 13 ≤ length l → k < length (put m k l)
 has-place m l k h room = omega (arith, fill-length (λ (i : ℕ). getD (measures m) i nan) k l)
 
 module _ (rule : Metrics → Metrics) (unitsPerEm : ℕ) (hasVerticalMetrics : Bool) (l : List Float) where
-  -- A list that is shorter than the record stays.
-  pub too-short : (n : ℕ) → n ≡ 7 → length l < 13 → (n ≡ number (roomIn l)) × (l ≡ changed rule unitsPerEm hasVerticalMetrics l)
+  -- What is of another size than the record stays.
+  pub other-size : (n : ℕ) → n ≡ 7 → (length l ≡ 13 → ⊥) → (n ≡ number (sizeIn l)) × (l ≡ changed rule unitsPerEm hasVerticalMetrics l)
   unfolding changed
-  too-short n p h = rw (lt-leb 13 (length l) h) (p, refl)
+  other-size n p h = rw (ne-eqb (length l) 13 h) (p, refl)
 
-  -- One that is not holds what the rule makes of its record.
-  pub all-changed : (given m : Metrics) (out : List Float) → 13 ≤ length l → given ≡ recordIn unitsPerEm hasVerticalMetrics l → m ≡ rule given → out ≡ put m 13 l → (0 ≡ number (roomIn l)) × (out ≡ changed rule unitsPerEm hasVerticalMetrics l)
+  -- A record holds what the rule makes of it.
+  pub all-changed : (given m : Metrics) (out : List Float) → length l ≡ 13 → given ≡ recordIn unitsPerEm hasVerticalMetrics l → m ≡ rule given → out ≡ put m 13 l → (0 ≡ number (sizeIn l)) × (out ≡ changed rule unitsPerEm hasVerticalMetrics l)
   unfolding changed
-  all-changed given m out h p q r = rw (le-leb 13 (length l) h) (refl, r ∙ ap (λ (n : Metrics). put n 13 l) (q ∙ ap rule p))
+  all-changed given m out h p q r = rw (eq-eqb (length l) 13 h) (refl, r ∙ ap (λ (n : Metrics). put n 13 l) (q ∙ ap rule p))

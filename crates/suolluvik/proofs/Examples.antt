@@ -15,7 +15,7 @@ use Rattle.metrics.specs.Measures.{materializedMetrics, linearScaled, scaledMet
 use Rattle.metrics.proofs.MeasuresTable.{computing-measures, mvarFont, default}
 use Rattle.suolluvik.specs.Numbered.{numbered}
 use Rattle.suolluvik.specs.Fvar.{noInstance, isNamed, nameOrZero}
-use Rattle.suolluvik.specs.Measures.{roomIn, changed}
+use Rattle.suolluvik.specs.Measures.{sizeIn, changed}
 
 -- S1: an advance has the number 0 beside its value; a bearing, for which there is no map, is refused by 1, and its value is 0.
 pub number-and-value : numbered (pos 0) (metricDelta s1-font 4 advance 0 (pos 8192 ∷ [])) ≡ (0, pos 3276800)
@@ -34,7 +34,7 @@ pub refused-instance : (valueOr noInstance (refused 3) .subfamilyNameID ≡ 0) �
 unfolding noInstance
 refused-instance = (refl, refl)
 
--- Thirteen measures, and some elements more.
+-- Thirteen measures, and some floats more.
 abbrev thirteen : ℕ → ℕ → ℕ → ℕ → ℕ → ℕ → ℕ → ℕ → ℕ → ℕ → ℕ → ℕ → ℕ → List Float → List Float
 thirteen a d l va vd vl c x w mw u s t more =
     float (pos a) ∷ float (pos d) ∷ float (pos l)
@@ -45,9 +45,9 @@ thirteen a d l va vd vl c x w mw u s t more =
 abbrev unvaried : List Float → List Float
 unvaried more = thirteen 100 200 300 400 500 600 700 800 900 1000 1100 1200 1300 more
 
--- Each measure has its own place, by the tag that shifts it; an element behind the thirteenth stays.
-pub each-in-its-place : changed (materializedMetrics (mvarFont 11) 2 default) 0 true (unvaried (float (pos 77) ∷ []))
-    ≡ thirteen 102 203 304 408 509 610 701 811 900 1000 1106 1205 1307 (float (pos 77) ∷ [])
+-- Each measure has its own place, by the tag that shifts it.
+pub each-in-its-place : changed (materializedMetrics (mvarFont 11) 2 default) 0 true (unvaried [])
+    ≡ thirteen 102 203 304 408 509 610 701 811 900 1000 1106 1205 1307 []
 unfolding computing-measures changed fill
 each-in-its-place = refl
 
@@ -68,10 +68,17 @@ pub for-pixels : (changed (scaledMetrics (float (pos 2000))) 1000 false (unvarie
 unfolding computing-measures changed fill
 for-pixels = (refl, refl)
 
--- Twelve elements are refused by 7, and stay.
+-- A record of any other size than thirteen floats is refused by 7, and stays: twelve, and fourteen too.
 abbrev twelve : List Float
 twelve = float (pos 1) ∷ float (pos 2) ∷ float (pos 3) ∷ float (pos 4) ∷ float (pos 5) ∷ float (pos 6) ∷ float (pos 7) ∷ float (pos 8) ∷ float (pos 9) ∷ float (pos 10) ∷ float (pos 11) ∷ float (pos 12) ∷ []
 
-pub twelve-are-too-few : (number (roomIn twelve) ≡ 7) × (changed (linearScaled (float (pos 2))) 0 false twelve ≡ twelve) × (number (roomIn (unvaried [])) ≡ 0)
+abbrev fourteen : List Float
+fourteen = unvaried (float (pos 77) ∷ [])
+
+pub twelve-are-too-few : (number (sizeIn twelve) ≡ 7) × (changed (linearScaled (float (pos 2))) 0 false twelve ≡ twelve) × (number (sizeIn (unvaried [])) ≡ 0)
 unfolding computing-measures changed fill
 twelve-are-too-few = (refl, refl, refl)
+
+pub fourteen-are-no-record : (number (sizeIn fourteen) ≡ 7) × (changed (linearScaled (float (pos 2))) 0 false fourteen ≡ fourteen)
+unfolding computing-measures changed fill
+fourteen-are-no-record = (refl, refl)

@@ -19,6 +19,15 @@ use Rattle.suolluvik.proofs.coords.suolluvik_instance_coords.Reads as i
 use Rattle.suolluvik.proofs.measures.suolluvik_materialize_metrics.Reads as materialize-metrics
 use Rattle.suolluvik.proofs.measures.suolluvik_scale_metrics.Reads as scale-metrics
 use Rattle.suolluvik.proofs.measures.suolluvik_linear_scale_metrics.Reads as linear-scale-metrics
+use Rattle.suolluvik.proofs.glyph.suolluvik_advance_width.Reads as advance-width
+use Rattle.suolluvik.proofs.glyph.suolluvik_lsb.Reads as lsb
+use Rattle.suolluvik.proofs.glyph.suolluvik_advance_height.Reads as advance-height
+use Rattle.suolluvik.proofs.glyph.suolluvik_tsb.Reads as tsb
+use Rattle.suolluvik.proofs.glyph.suolluvik_vertical_origin.Reads as vertical-origin
+use Rattle.suolluvik.proofs.glyph.suolluvik_materialize_glyph_metrics.Reads as materialize-glyph-metrics
+use Rattle.suolluvik.proofs.glyph.suolluvik_scale_glyph_metrics.Reads as scale-glyph-metrics
+use Rattle.suolluvik.proofs.glyph.suolluvik_synthesize.Reads as synthesize
+use Rattle.suolluvik.proofs.version.suolluvik_version.Reads as version
 
 pub advance-delta-fixed-one : OneSeen advance-delta-fixed.Post (λ r s. r and s .1 .1 .1 .1 .0 .now)
 advance-delta-fixed-one κs a r r′ s s′ p q = p ∙ sym q
@@ -73,3 +82,30 @@ scale-metrics-one κs a r r′ s s′ p q = cc
 
 pub linear-scale-metrics-one : OneSeen linear-scale-metrics.Post (λ r s. r and s .1 .0 .now)
 linear-scale-metrics-one κs a r r′ s s′ p q = cc
+
+pub advance-width-one : One advance-width.Post
+advance-width-one κs a r r′ s s′ p q = p ∙ sym q
+
+pub lsb-one : One lsb.Post
+lsb-one κs a r r′ s s′ p q = p ∙ sym q
+
+pub scale-glyph-metrics-one : One scale-glyph-metrics.Post
+scale-glyph-metrics-one κs a r r′ s s′ p q = p ∙ sym q
+
+pub version-one : One version.Post
+version-one κs a r r′ s s′ p q = p ∙ sym q
+
+pub advance-height-one : OneSeen advance-height.Post (λ r s. r and s .1 .1 .1 .1 .1 .1 .1 .1 .0 .now)
+advance-height-one κs a r r′ s s′ p q = p ∙ sym q
+
+pub tsb-one : OneSeen tsb.Post (λ r s. r and s .1 .1 .1 .1 .1 .1 .1 .0 .now)
+tsb-one κs a r r′ s s′ p q = p ∙ sym q
+
+pub vertical-origin-one : OneSeen vertical-origin.Post (λ r s. r and s .1 .1 .1 .1 .1 .1 .1 .1 .1 .1 .1 .0 .now)
+vertical-origin-one κs a r r′ s s′ p q = p ∙ sym q
+
+pub materialize-glyph-metrics-one : OneSeen materialize-glyph-metrics.Post (λ r s. (r and s .1 .1 .1 .1 .1 .1 .0 .now) and (r and s .1 .1 .1 .1 .1 .1 .1 .0 .now))
+materialize-glyph-metrics-one κs a r r′ s s′ p q = cc
+
+pub synthesize-one : OneSeen synthesize.Post (λ r s. s .1 .1 .0 .now and s .1 .1 .1 .0 .now)
+synthesize-one κs a r r′ s s′ p q = cc

@@ -2,3 +2,5 @@
 pub mod Numbered
 pub mod Fvar
 pub mod Measures
+pub mod Glyph
+pub mod GlyphAnswers

@@ -1,15 +1,15 @@
--- The thirteen measures as the first elements of a lent list, in the record's order (document 01, "Measures").
+-- The measures as a lent record of floats, in the record's order (document 01, "Measures"), whose size is handed over: thirteen.
 use Prim.Native.Nat.{ℕ}
 use mathlib.Core.Bool.{Bool, false}
 use mathlib.Core.List.{List, [], _∷_}
-use lib.Dec.{leb}
+use lib.Dec.{eqb}
 use lib.Ieee.{Float, nan}
 use lib.ListN.{length, getD}
 use Rattle.readers.specs.Outcome.{Outcome, value, unless}
 use Rattle.readers.specs.Lent.{fill, written}
 use Rattle.metrics.specs.Measures.{Metrics}
 
--- The record that a list's first thirteen elements make, with two of the other fields; no measure hangs on the glyph count or on the monospace flag.
+-- The measures that thirteen floats are, with two of the other fields; no measure hangs on the glyph count or on the monospace flag.
 abbrev pub recordIn : ℕ → Bool → List Float → Metrics
 recordIn unitsPerEm hasVerticalMetrics l = record {
   unitsPerEm = unitsPerEm;
@@ -38,15 +38,15 @@ measures m =
     ∷ m .capHeight ∷ m .xHeight ∷ m .averageWidth ∷ m .maxWidth
     ∷ m .underlineOffset ∷ m .strikeoutOffset ∷ m .strokeSize ∷ []
 
--- How many measures a list has room for: all of them, or refusal 7.
-abbrev pub roomIn : List Float → Outcome ℕ
-roomIn l = unless (leb 13 (length l)) 7 (value 13)
+-- How many floats a record has: a size that the header names, or refusal 7. So a longer record can be added, and who has the shorter one is answered as before.
+abbrev pub sizeIn : List Float → Outcome ℕ
+sizeIn l = unless (eqb (length l) 13) 7 (value 13)
 
--- The list with the measures of a record as its first elements; those beyond stay.
+-- The floats with the first n of them a record's measures.
 abbrev pub put : Metrics → ℕ → List Float → List Float
 put m n l = fill (λ k. getD (measures m) k nan) n l
 
--- What the list holds once a rule has changed its measures; on a refusal what it held. A rule that does not look at one of the two other fields is handed 0, or false.
+-- What is lent once a rule has changed its measures; on a refusal as it was. A rule that does not look at one of the two other fields is handed 0, or false.
 unfoldable pub changed : (Metrics → Metrics) → ℕ → Bool → List Float → List Float
 changed rule unitsPerEm hasVerticalMetrics l =
-    written (roomIn l) (put (rule (recordIn unitsPerEm hasVerticalMetrics l))) l
+    written (sizeIn l) (put (rule (recordIn unitsPerEm hasVerticalMetrics l))) l

@@ -12,7 +12,7 @@ ghost use Rattle.suolluvik.specs.Numbered.{numbered};
 // The coordinates that settings give, tags[s] with values[s]: at most 32; count is how many.
 #[no_mangle]
 pub extern "C" fn suolluvik_normalized_coords(
-    table: &[u8],
+    fvar: &[u8],
     font: &[u8],
     avar: u32,
     tags: &[u32],
@@ -20,12 +20,12 @@ pub extern "C" fn suolluvik_normalized_coords(
     out: &mut [i16],
     count: &mut u16,
 ) -> u8
-    ensures count { λ r. ⌜ (r, now (count .exit)) ≡ numbered 0 (settingsCount (now (table .entry)) (headerOf (now (table .entry))) (now (font .entry)) avar (now (tags .entry)) (now (values .entry)) (length (now (out .entry)))) ⌝ }
-    ensures list { λ r. ⌜ now (out .exit) ≡ settingsCoords (now (table .entry)) (headerOf (now (table .entry))) (now (font .entry)) avar (now (tags .entry)) (now (values .entry)) (now (out .entry)) ⌝ }
+    ensures count { λ r. ⌜ (r, now (count .exit)) ≡ numbered 0 (settingsCount (now (fvar .entry)) (headerOf (now (fvar .entry))) (now (font .entry)) avar (now (tags .entry)) (now (values .entry)) (length (now (out .entry)))) ⌝ }
+    ensures list { λ r. ⌜ now (out .exit) ≡ settingsCoords (now (fvar .entry)) (headerOf (now (fvar .entry))) (now (font .entry)) avar (now (tags .entry)) (now (values .entry)) (now (out .entry)) ⌝ }
 {
-    let fvar = Fvar::new(table);
+    let header = Fvar::new(fvar);
     count_value(
-        normalized_coords(fvar, table, font, avar, tags, values, out),
+        normalized_coords(header, fvar, font, avar, tags, values, out),
         count,
     )
 }
@@ -33,16 +33,16 @@ pub extern "C" fn suolluvik_normalized_coords(
 // The coordinates of an instance, one for each axis.
 #[no_mangle]
 pub extern "C" fn suolluvik_instance_coords(
-    table: &[u8],
+    fvar: &[u8],
     font: &[u8],
     avar: u32,
     index: u16,
     out: &mut [i16],
     count: &mut u16,
 ) -> u8
-    ensures count { λ r. ⌜ (r, now (count .exit)) ≡ numbered 0 (instanceCount (now (table .entry)) (headerOf (now (table .entry))) (now (font .entry)) avar index (length (now (out .entry)))) ⌝ }
-    ensures list { λ r. ⌜ now (out .exit) ≡ instanceCoords (now (table .entry)) (headerOf (now (table .entry))) (now (font .entry)) avar index (now (out .entry)) ⌝ }
+    ensures count { λ r. ⌜ (r, now (count .exit)) ≡ numbered 0 (instanceCount (now (fvar .entry)) (headerOf (now (fvar .entry))) (now (font .entry)) avar index (length (now (out .entry)))) ⌝ }
+    ensures list { λ r. ⌜ now (out .exit) ≡ instanceCoords (now (fvar .entry)) (headerOf (now (fvar .entry))) (now (font .entry)) avar index (now (out .entry)) ⌝ }
 {
-    let fvar = Fvar::new(table);
-    count_value(instance_coords(fvar, table, font, avar, index, out), count)
+    let header = Fvar::new(fvar);
+    count_value(instance_coords(header, fvar, font, avar, index, out), count)
 }

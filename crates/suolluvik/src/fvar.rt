@@ -18,17 +18,17 @@ ghost use Rattle.suolluvik.specs.Fvar.{axisIn, taggedIn, instanceIn, noI
 
 // How many axes the header counts, and how many instances; 0 where that can't be read.
 #[no_mangle]
-pub extern "C" fn suolluvik_axis_count(table: &[u8]) -> u16
-    ensures { λ r. ⌜ r ≡ headerOf (now (table .entry)) .axisCount ⌝ }
+pub extern "C" fn suolluvik_axis_count(fvar: &[u8]) -> u16
+    ensures { λ r. ⌜ r ≡ headerOf (now (fvar .entry)) .axisCount ⌝ }
 {
-    Fvar::new(table).axis_count
+    Fvar::new(fvar).axis_count
 }
 
 #[no_mangle]
-pub extern "C" fn suolluvik_instance_count(table: &[u8]) -> u16
-    ensures { λ r. ⌜ r ≡ headerOf (now (table .entry)) .instanceCount ⌝ }
+pub extern "C" fn suolluvik_instance_count(fvar: &[u8]) -> u16
+    ensures { λ r. ⌜ r ≡ headerOf (now (fvar .entry)) .instanceCount ⌝ }
 {
-    Fvar::new(table).inst_count
+    Fvar::new(fvar).inst_count
 }
 
 // A 16.16 number, as an axis has them, as a float.
@@ -50,7 +50,7 @@ fn axis_fields(
     answer: AxisAnswer,
     tag: &mut u32,
     min: &mut i32,
-    default: &mut i32,
+    default_value: &mut i32,
     max: &mut i32,
     flags: &mut u16,
     name_id: &mut u16,
@@ -58,7 +58,7 @@ fn axis_fields(
     ensures number { λ r. ⌜ r ≡ number (axisOutcome answer) ⌝ }
     ensures tag { λ r. ⌜ now (tag .exit) ≡ valueOr noAxis (axisOutcome answer) .axisTag ⌝ }
     ensures min { λ r. ⌜ now (min .exit) ≡ valueOr noAxis (axisOutcome answer) .minValue ⌝ }
-    ensures default { λ r. ⌜ now (default .exit) ≡ valueOr noAxis (axisOutcome answer) .defaultValue ⌝ }
+    ensures default { λ r. ⌜ now («default_value» .exit) ≡ valueOr noAxis (axisOutcome answer) .defaultValue ⌝ }
     ensures max { λ r. ⌜ now (max .exit) ≡ valueOr noAxis (axisOutcome answer) .maxValue ⌝ }
     ensures flags { λ r. ⌜ now (flags .exit) ≡ valueOr noAxis (axisOutcome answer) .flags ⌝ }
     ensures name { λ r. ⌜ now («name_id» .exit) ≡ valueOr noAxis (axisOutcome answer) .axisNameID ⌝ }
@@ -70,7 +70,7 @@ fn axis_fields(
             let middle = raw(a.default);
             let highest = raw(a.max);
             *min = lowest;
-            *default = middle;
+            *default_value = middle;
             *max = highest;
             *flags = a.flags;
             *name_id = a.name_id;
@@ -79,7 +79,7 @@ fn axis_fields(
         AxisAnswer::Refused(n) => {
             *tag = 0;
             *min = 0;
-            *default = 0;
+            *default_value = 0;
             *max = 0;
             *flags = 0;
             *name_id = 0;
@@ -91,29 +91,29 @@ fn axis_fields(
 // Axis `index`: min, default and max are 16.16 numbers.
 #[no_mangle]
 pub extern "C" fn suolluvik_axis(
-    table: &[u8],
+    fvar: &[u8],
     index: u16,
     tag: &mut u32,
     min: &mut i32,
-    default: &mut i32,
+    default_value: &mut i32,
     max: &mut i32,
     flags: &mut u16,
     name_id: &mut u16,
 ) -> u8
-    ensures number { λ r. ⌜ r ≡ number (axisIn (now (table .entry)) index) ⌝ }
-    ensures tag { λ r. ⌜ now (tag .exit) ≡ valueOr noAxis (axisIn (now (table .entry)) index) .axisTag ⌝ }
-    ensures min { λ r. ⌜ now (min .exit) ≡ valueOr noAxis (axisIn (now (table .entry)) index) .minValue ⌝ }
-    ensures default { λ r. ⌜ now (default .exit) ≡ valueOr noAxis (axisIn (now (table .entry)) index) .defaultValue ⌝ }
-    ensures max { λ r. ⌜ now (max .exit) ≡ valueOr noAxis (axisIn (now (table .entry)) index) .maxValue ⌝ }
-    ensures flags { λ r. ⌜ now (flags .exit) ≡ valueOr noAxis (axisIn (now (table .entry)) index) .flags ⌝ }
-    ensures name { λ r. ⌜ now («name_id» .exit) ≡ valueOr noAxis (axisIn (now (table .entry)) index) .axisNameID ⌝ }
+    ensures number { λ r. ⌜ r ≡ number (axisIn (now (fvar .entry)) index) ⌝ }
+    ensures tag { λ r. ⌜ now (tag .exit) ≡ valueOr noAxis (axisIn (now (fvar .entry)) index) .axisTag ⌝ }
+    ensures min { λ r. ⌜ now (min .exit) ≡ valueOr noAxis (axisIn (now (fvar .entry)) index) .minValue ⌝ }
+    ensures default { λ r. ⌜ now («default_value» .exit) ≡ valueOr noAxis (axisIn (now (fvar .entry)) index) .defaultValue ⌝ }
+    ensures max { λ r. ⌜ now (max .exit) ≡ valueOr noAxis (axisIn (now (fvar .entry)) index) .maxValue ⌝ }
+    ensures flags { λ r. ⌜ now (flags .exit) ≡ valueOr noAxis (axisIn (now (fvar .entry)) index) .flags ⌝ }
+    ensures name { λ r. ⌜ now («name_id» .exit) ≡ valueOr noAxis (axisIn (now (fvar .entry)) index) .axisNameID ⌝ }
 {
-    let fvar = Fvar::new(table);
+    let header = Fvar::new(fvar);
     axis_fields(
-        fvar.get_axis(table, index),
+        header.get_axis(fvar, index),
         tag,
         min,
-        default,
+        default_value,
         max,
         flags,
         name_id,
@@ -132,28 +132,28 @@ fn axis_index(answer: AxisAnswer) -> u16
 // The first axis with a tag.
 #[no_mangle]
 pub extern "C" fn suolluvik_axis_by_tag(
-    table: &[u8],
+    fvar: &[u8],
     tag: u32,
     index: &mut u16,
     min: &mut i32,
-    default: &mut i32,
+    default_value: &mut i32,
     max: &mut i32,
     flags: &mut u16,
     name_id: &mut u16,
 ) -> u8
-    ensures number { λ r. ⌜ r ≡ number (taggedIn (now (table .entry)) tag) ⌝ }
-    ensures index { λ r. ⌜ now (index .exit) ≡ valueOr noAxis (taggedIn (now (table .entry)) tag) .index ⌝ }
-    ensures min { λ r. ⌜ now (min .exit) ≡ valueOr noAxis (taggedIn (now (table .entry)) tag) .minValue ⌝ }
-    ensures default { λ r. ⌜ now (default .exit) ≡ valueOr noAxis (taggedIn (now (table .entry)) tag) .defaultValue ⌝ }
-    ensures max { λ r. ⌜ now (max .exit) ≡ valueOr noAxis (taggedIn (now (table .entry)) tag) .maxValue ⌝ }
-    ensures flags { λ r. ⌜ now (flags .exit) ≡ valueOr noAxis (taggedIn (now (table .entry)) tag) .flags ⌝ }
-    ensures name { λ r. ⌜ now («name_id» .exit) ≡ valueOr noAxis (taggedIn (now (table .entry)) tag) .axisNameID ⌝ }
+    ensures number { λ r. ⌜ r ≡ number (taggedIn (now (fvar .entry)) tag) ⌝ }
+    ensures index { λ r. ⌜ now (index .exit) ≡ valueOr noAxis (taggedIn (now (fvar .entry)) tag) .index ⌝ }
+    ensures min { λ r. ⌜ now (min .exit) ≡ valueOr noAxis (taggedIn (now (fvar .entry)) tag) .minValue ⌝ }
+    ensures default { λ r. ⌜ now («default_value» .exit) ≡ valueOr noAxis (taggedIn (now (fvar .entry)) tag) .defaultValue ⌝ }
+    ensures max { λ r. ⌜ now (max .exit) ≡ valueOr noAxis (taggedIn (now (fvar .entry)) tag) .maxValue ⌝ }
+    ensures flags { λ r. ⌜ now (flags .exit) ≡ valueOr noAxis (taggedIn (now (fvar .entry)) tag) .flags ⌝ }
+    ensures name { λ r. ⌜ now («name_id» .exit) ≡ valueOr noAxis (taggedIn (now (fvar .entry)) tag) .axisNameID ⌝ }
 {
-    let fvar = Fvar::new(table);
-    let answer = fvar.get_axis_by_tag(table, tag);
+    let header = Fvar::new(fvar);
+    let answer = header.get_axis_by_tag(fvar, tag);
     *index = axis_index(answer);
     let mut found: u32 = 0;
-    axis_fields(answer, &mut found, min, default, max, flags, name_id)
+    axis_fields(answer, &mut found, min, default_value, max, flags, name_id)
 }
 
 // A name id that may be absent, as whether it is there, 1 or 0, and the id.
@@ -178,19 +178,19 @@ fn name_or_zero(name: NameId) -> u16
 // Instance `index`: its name id; whether it has a PostScript name id, 1 or 0, and that.
 #[no_mangle]
 pub extern "C" fn suolluvik_instance(
-    table: &[u8],
+    fvar: &[u8],
     index: u16,
     name_id: &mut u16,
     has_postscript_name: &mut u8,
     postscript_name_id: &mut u16,
 ) -> u8
-    ensures number { λ r. ⌜ r ≡ number (instanceIn (now (table .entry)) index) ⌝ }
-    ensures name { λ r. ⌜ now («name_id» .exit) ≡ valueOr noInstance (instanceIn (now (table .entry)) index) .subfamilyNameID ⌝ }
-    ensures has { λ r. ⌜ now («has_postscript_name» .exit) ≡ isNamed (valueOr noInstance (instanceIn (now (table .entry)) index) .postScriptNameID) ⌝ }
-    ensures postscript { λ r. ⌜ now («postscript_name_id» .exit) ≡ nameOrZero (valueOr noInstance (instanceIn (now (table .entry)) index) .postScriptNameID) ⌝ }
+    ensures number { λ r. ⌜ r ≡ number (instanceIn (now (fvar .entry)) index) ⌝ }
+    ensures name { λ r. ⌜ now («name_id» .exit) ≡ valueOr noInstance (instanceIn (now (fvar .entry)) index) .subfamilyNameID ⌝ }
+    ensures has { λ r. ⌜ now («has_postscript_name» .exit) ≡ isNamed (valueOr noInstance (instanceIn (now (fvar .entry)) index) .postScriptNameID) ⌝ }
+    ensures postscript { λ r. ⌜ now («postscript_name_id» .exit) ≡ nameOrZero (valueOr noInstance (instanceIn (now (fvar .entry)) index) .postScriptNameID) ⌝ }
 {
-    let fvar = Fvar::new(table);
-    match fvar.get_instance(table, index) {
+    let header = Fvar::new(fvar);
+    match header.get_instance(fvar, index) {
         InstanceAnswer::Value(v) => {
             let name = v.postscript_name_id;
             *name_id = v.name_id;
@@ -210,14 +210,14 @@ pub extern "C" fn suolluvik_instance(
 // The values of an instance, one for each axis, in the first elements of out; count is how many.
 #[no_mangle]
 pub extern "C" fn suolluvik_instance_floats(
-    table: &[u8],
+    fvar: &[u8],
     index: u16,
     out: &mut [f32],
     count: &mut u16,
 ) -> u8
-    ensures count { λ r. ⌜ (r, now (count .exit)) ≡ numbered 0 (floatCount (now (table .entry)) (headerOf (now (table .entry))) index (length (now (out .entry)))) ⌝ }
-    ensures list { λ r. ⌜ now (out .exit) ≡ floatsIn (now (table .entry)) (headerOf (now (table .entry))) index (now (out .entry)) ⌝ }
+    ensures count { λ r. ⌜ (r, now (count .exit)) ≡ numbered 0 (floatCount (now (fvar .entry)) (headerOf (now (fvar .entry))) index (length (now (out .entry)))) ⌝ }
+    ensures list { λ r. ⌜ now (out .exit) ≡ floatsIn (now (fvar .entry)) (headerOf (now (fvar .entry))) index (now (out .entry)) ⌝ }
 {
-    let fvar = Fvar::new(table);
-    count_value(fvar.instance_floats(table, index, out), count)
+    let header = Fvar::new(fvar);
+    count_value(header.instance_floats(fvar, index, out), count)
 }

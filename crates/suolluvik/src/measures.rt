@@ -1,5 +1,5 @@
-// A font's thirteen measures, in a lent list: ascent, descent, leading, vertical ascent, descent and leading, cap height, x height, average and maximum width, underline
-// and strikeout offset, stroke size. They are changed in place; a list that is shorter is refused.
+// A font's thirteen measures, a lent record of floats: ascent, descent, leading, vertical ascent, descent and leading, cap height, x height, average and maximum width, underline
+// and strikeout offset, stroke size. They are changed in place; a record of another size is refused.
 use metrics::measures::Metrics;
 use metrics::measures::materialize_metrics;
 use readers::Refusal;
@@ -10,7 +10,7 @@ ghost use lib.ListN.{length};
 ghost use Rattle.readers.specs.Outcome.{number};
 ghost use Rattle.metrics.specs.Measures.{materializedMetrics, linearScaled, scaledMetrics};
 ghost use Rattle.metrics.specs.Structs.{metricsOf};
-ghost use Rattle.suolluvik.specs.Measures.{recordIn, roomIn, put, changed};
+ghost use Rattle.suolluvik.specs.Measures.{recordIn, sizeIn, put, changed};
 
 const COUNT: usize = 13;
 
@@ -67,10 +67,10 @@ pub extern "C" fn suolluvik_materialize_metrics<'a>(
     has_vertical_metrics: bool,
     measures: &mut [f32],
 ) -> u8
-    ensures number { λ r. ⌜ r ≡ number (roomIn (now (measures .entry))) ⌝ }
+    ensures number { λ r. ⌜ r ≡ number (sizeIn (now (measures .entry))) ⌝ }
     ensures list { λ r. ⌜ now (measures .exit) ≡ changed (materializedMetrics (now (font .entry)) mvar (now (coords .entry))) 0 «has_vertical_metrics» (now (measures .entry)) ⌝ }
 {
-    if measures.len() < COUNT {
+    if measures.len() != COUNT {
         return readers::number(Refusal::Room);
     }
     let unvaried = record_in(0, has_vertical_metrics, measures);
@@ -81,10 +81,10 @@ pub extern "C" fn suolluvik_materialize_metrics<'a>(
 // The measures scaled for pixels per em.
 #[no_mangle]
 pub extern "C" fn suolluvik_scale_metrics(units_per_em: u16, ppem: f32, measures: &mut [f32]) -> u8
-    ensures number { λ r. ⌜ r ≡ number (roomIn (now (measures .entry))) ⌝ }
+    ensures number { λ r. ⌜ r ≡ number (sizeIn (now (measures .entry))) ⌝ }
     ensures list { λ r. ⌜ now (measures .exit) ≡ changed (scaledMetrics ppem) «units_per_em» false (now (measures .entry)) ⌝ }
 {
-    if measures.len() < COUNT {
+    if measures.len() != COUNT {
         return readers::number(Refusal::Room);
     }
     let m = record_in(units_per_em, false, measures);
@@ -95,10 +95,10 @@ pub extern "C" fn suolluvik_scale_metrics(units_per_em: u16, ppem: f32, measures
 // The measures scaled by a factor.
 #[no_mangle]
 pub extern "C" fn suolluvik_linear_scale_metrics(scale: f32, measures: &mut [f32]) -> u8
-    ensures number { λ r. ⌜ r ≡ number (roomIn (now (measures .entry))) ⌝ }
+    ensures number { λ r. ⌜ r ≡ number (sizeIn (now (measures .entry))) ⌝ }
     ensures list { λ r. ⌜ now (measures .exit) ≡ changed (linearScaled scale) 0 false (now (measures .entry)) ⌝ }
 {
-    if measures.len() < COUNT {
+    if measures.len() != COUNT {
         return readers::number(Refusal::Room);
     }
     let m = record_in(0, false, measures);

@@ -1,7 +1,7 @@
 -- `suolluvik::measures::suolluvik_scale_metrics` meets its contract. Assumes nothing.
 use borrow.Author.Needs.{needs}
 use native.Mathlib.Omega.{arith}
-use Rattle.suolluvik.proofs.Changed.{too-short, all-changed}
+use Rattle.suolluvik.proofs.Changed.{other-size, all-changed}
 use Rattle.suolluvik.proofs.measures.suolluvik_scale_metrics.Statement.{statement}
 use Rattle.suolluvik.proofs.measures.suolluvik_scale_metrics.Tie as tie
 
@@ -9,16 +9,16 @@ number-requires : tie.Need-number-requires
 number-requires c κs = search needs
 
 returns : tie.Need-returns
-returns c = too-short _ _ _ (c .before .before .before .args .measures .now) _ (c .number .ensures) (omega arith)
+returns c = other-size _ _ _ (c .before .before .before .args .measures .now) _ (c .number .ensures) (c .before .if1 .taken)
 
 record-in-requires : tie.Need-record-in-requires
-record-in-requires c κs = search needs
+record-in-requires c κs = omega arith
 
 scale-requires : tie.Need-scale-requires
 scale-requires c κs = search needs
 
 put-requires : tie.Need-put-requires
-put-requires c κs = search needs
+put-requires c κs = omega arith
 
 same-length : tie.Need-same-length
 same-length c = search needs

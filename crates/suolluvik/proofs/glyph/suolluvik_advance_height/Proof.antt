@@ -1,9 +1,9 @@
 -- `suolluvik::glyph::suolluvik_advance_height` meets its contract. Assumes nothing.
 use borrow.Author.Needs.{needs}
-use Rattle.metrics.proofs.Floats.{zero-float}
-use Rattle.suolluvik.proofs.Cases.{of-a-case, of-no-case}
 use mathlib.Core.Path.{ap, _∙_}
 use Rattle.metrics.specs.Glyph.{advanceHeight}
+use Rattle.metrics.proofs.Floats.{zero-float}
+use Rattle.suolluvik.proofs.Cases.{of-a-case, of-no-case}
 use Rattle.suolluvik.proofs.glyph.suolluvik_advance_height.Statement.{statement}
 use Rattle.suolluvik.proofs.glyph.suolluvik_advance_height.Tie as tie
 

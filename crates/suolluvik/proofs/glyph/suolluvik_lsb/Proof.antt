@@ -1,8 +1,8 @@
 -- `suolluvik::glyph::suolluvik_lsb` meets its contract. Assumes nothing.
 use borrow.Author.Needs.{needs}
+use mathlib.Core.Path.{ap, _∙_}
 use mir.Syntax.{w16}
 use mir.ValLaws.{toZ-ofZ}
-use mathlib.Core.Path.{ap, _∙_}
 use Rattle.metrics.specs.Glyph.{leftBearing}
 use Rattle.suolluvik.proofs.glyph.suolluvik_lsb.Statement.{statement}
 use Rattle.suolluvik.proofs.glyph.suolluvik_lsb.Tie as tie

@@ -1,11 +1,11 @@
 -- `suolluvik::glyph::suolluvik_tsb` meets its contract. Assumes nothing.
 use borrow.Author.Needs.{needs}
+use mathlib.Core.Path.{ap, _∙_}
 use mir.Syntax.{w16}
 use mir.ValLaws.{toZ-ofZ}
+use Rattle.metrics.specs.Glyph.{topBearing}
 use Rattle.metrics.proofs.Floats.{zero-float}
 use Rattle.suolluvik.proofs.Cases.{of-a-case, of-no-case}
-use mathlib.Core.Path.{ap, _∙_}
-use Rattle.metrics.specs.Glyph.{topBearing}
 use Rattle.suolluvik.proofs.glyph.suolluvik_tsb.Statement.{statement}
 use Rattle.suolluvik.proofs.glyph.suolluvik_tsb.Tie as tie
 

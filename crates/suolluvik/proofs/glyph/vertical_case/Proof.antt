@@ -1,6 +1,6 @@
 -- `suolluvik::glyph::vertical_case` meets its contract. Assumes nothing.
-use mathlib.Core.Path.{refl}
 use borrow.Author.Tests.{eq-eqb, ne-eqb}
+use mathlib.Core.Path.{refl}
 use Rattle.suolluvik.specs.Glyph.{verticalCase}
 use Rattle.suolluvik.proofs.glyph.vertical_case.Statement.{statement}
 use Rattle.suolluvik.proofs.glyph.vertical_case.Tie as tie

@@ -1,21 +1,17 @@
-/* Suolluvik, linked: the deltas, coordinates, axes, instances and measures of a variable font, as the font-variation
- * part of swash 0.2.10 answers them. libsuolluvik.a (`./suolluvik lib`) has these functions, for x86-64.
+/* Suolluvik, linked: the deltas, coordinates, axes, instances, measures and glyph metrics of a variable font, as the
+ * font-variation part of swash 0.2.10 answers them. libsuolluvik.a (`./suolluvik lib`) has these functions, for x86-64.
  *
- * Numbers. A function that can refuse returns 0, or the number of its refusal:
- *   1  an offset of HVAR, VVAR, of the store or of a bearing map is 0, or an MVAR has no records
- *   2  a read reaches past the end
- *   3  an axis, instance, subtable or region index is not below its count
- *   4  a tag is not found
- *   5  arithmetic: a map count of 0, more words than region indices, an offset of 2^32 or more, an instance size of 0 or
- *      1, a value that can't be normalised
- *   6  tags and values differ in number
- *   7  a list is too short for what is to be written
- * On a refusal every value that is written through a pointer is 0, and no list changes. Without one all of them are
- * written; of a list the first elements, as many as are counted, and those beyond stay.
+ * Refusals. A function that can refuse returns SUOLLUVIK_OK, which is 0, or the number of its refusal. On a refusal every
+ * value that is written through a pointer is 0, and no list changes. Without one all of them are written; of a list the
+ * first elements, as many as are counted, and those beyond stay.
  *
  * Lists. A list is a pointer and, right behind it, how many elements it has. Any bytes, offsets, ids, coordinates and
- * floats are taken. What is asked of the caller: a pointer is not null (nor for an empty list) and is aligned for its
- * type; behind it are as many elements as said; what is written through a pointer overlaps nothing else of the call.
+ * floats are taken. What is asked of the caller: a pointer is aligned for its type; behind it are as many elements as
+ * said; what is written through a pointer overlaps nothing else of the call. NULL with 0 elements is an empty list; any
+ * other pointer is not null.
+ *
+ * Floats. The thread's float environment is the one that a program starts with: rounding to nearest, and nothing flushed
+ * to zero.
  *
  * A font is the whole file, and offsets count from its start; 0 says that there is no such table. `fvar` is that table
  * alone. Coordinates are normalised, in 2.14; a missing one is 0. A 16.16 number is written as its raw integer. */
@@ -29,6 +25,32 @@
 #ifdef __cplusplus
 extern "C" {
 #endif
+
+/* The version of this header, and that of the library. It rises by one when a function, a refusal or a size of the record
+ * of measures is added; nothing is taken away. A library whose version is lower than the header's is older than it, and
+ * has not all that the header says. */
+#define SUOLLUVIK_VERSION 1
+uint32_t suolluvik_version(void);
+
+/* A later library may answer other numbers too: they are refusals like these. */
+enum suolluvik_refusal {
+    SUOLLUVIK_OK = 0,
+    /* an offset of HVAR, VVAR, of the store or of a bearing map is 0, or an MVAR has no records */
+    SUOLLUVIK_ABSENT = 1,
+    /* a read reaches past the end */
+    SUOLLUVIK_SHORT = 2,
+    /* an axis, instance, subtable or region index, or the number of a vertical case, is not below its count */
+    SUOLLUVIK_INDEX = 3,
+    /* a tag is not found */
+    SUOLLUVIK_TAG = 4,
+    /* a map count of 0, more words than region indices, an offset of 2^32 or more, an instance size of 0 or 1, a value
+     * that can't be normalised */
+    SUOLLUVIK_ARITHMETIC = 5,
+    /* tags and values differ in number */
+    SUOLLUVIK_LENGTHS = 6,
+    /* a list is too short for what is to be written, or no record of measures has this many floats */
+    SUOLLUVIK_ROOM = 7
+};
 
 /* The delta of a glyph's advance, by the HVAR or VVAR at the offset xvar; as a 16.16 number, or as a float. */
 uint8_t suolluvik_advance_delta_fixed(const uint8_t *font, size_t font_len, uint32_t xvar, uint16_t glyph_id,
@@ -81,33 +103,71 @@ uint8_t suolluvik_normalized_coords(const uint8_t *fvar, size_t fvar_len, const 
 uint8_t suolluvik_instance_coords(const uint8_t *fvar, size_t fvar_len, const uint8_t *font, size_t font_len,
                                   uint32_t avar, uint16_t index, int16_t *out, size_t out_len, uint16_t *count);
 
-/* A font's measures are thirteen floats, in this order; a list with fewer is refused by 7. They are changed in place. */
-enum {
-    SUOLLUVIK_ASCENT,
-    SUOLLUVIK_DESCENT,
-    SUOLLUVIK_LEADING,
-    SUOLLUVIK_VERTICAL_ASCENT,
-    SUOLLUVIK_VERTICAL_DESCENT,
-    SUOLLUVIK_VERTICAL_LEADING,
-    SUOLLUVIK_CAP_HEIGHT,
-    SUOLLUVIK_X_HEIGHT,
-    SUOLLUVIK_AVERAGE_WIDTH,
-    SUOLLUVIK_MAX_WIDTH,
-    SUOLLUVIK_UNDERLINE_OFFSET,
-    SUOLLUVIK_STRIKEOUT_OFFSET,
-    SUOLLUVIK_STROKE_SIZE,
-    SUOLLUVIK_MEASURES
-};
+/* A font's measures, which are changed in place. A record is handed over with how many floats it has: thirteen, as here,
+ * and any other number is refused by 7. A later library may have a longer record too. */
+typedef struct suolluvik_metrics {
+    float ascent;
+    float descent;
+    float leading;
+    float vertical_ascent;
+    float vertical_descent;
+    float vertical_leading;
+    float cap_height;
+    float x_height;
+    float average_width;
+    float max_width;
+    float underline_offset;
+    float strikeout_offset;
+    float stroke_size;
+} suolluvik_metrics;
+#define SUOLLUVIK_METRICS_FLOATS (sizeof(suolluvik_metrics) / sizeof(float))
 
 /* From the unvaried measures those at some coordinates, by the MVAR at the offset mvar, 0 for none; the vertical ones
  * are shifted only with vertical metrics. Where it does not open, or the coordinate list is empty, they stay. */
 uint8_t suolluvik_materialize_metrics(const uint8_t *font, size_t font_len, uint32_t mvar, const int16_t *coords,
-                                      size_t coords_len, bool has_vertical_metrics, float *measures,
+                                      size_t coords_len, bool has_vertical_metrics, suolluvik_metrics *measures,
                                       size_t measures_len);
 
 /* The measures scaled for pixels per em (by 1 where there are no units per em), and scaled by a factor. */
-uint8_t suolluvik_scale_metrics(uint16_t units_per_em, float ppem, float *measures, size_t measures_len);
-uint8_t suolluvik_linear_scale_metrics(float scale, float *measures, size_t measures_len);
+uint8_t suolluvik_scale_metrics(uint16_t units_per_em, float ppem, suolluvik_metrics *measures, size_t measures_len);
+uint8_t suolluvik_linear_scale_metrics(float scale, suolluvik_metrics *measures, size_t measures_len);
+
+/* A glyph's metrics are (unvaried + delta) * scale, where a refused delta is 0. `unvaried` is what hmtx or vmtx has. The
+ * scale is any float; this is the one for pixels per em (1 where there are no units per em). */
+float suolluvik_scale_glyph_metrics(uint16_t units_per_em, float ppem);
+
+/* The advance width and the left side bearing of a glyph, by the HVAR at the offset hvar. */
+float suolluvik_advance_width(const uint8_t *font, size_t font_len, uint32_t hvar, uint16_t glyph_id,
+                              const int16_t *coords, size_t coords_len, uint16_t unvaried, float scale);
+float suolluvik_lsb(const uint8_t *font, size_t font_len, uint32_t hvar, uint16_t glyph_id, const int16_t *coords,
+                    size_t coords_len, int16_t unvaried, float scale);
+
+/* What the font has for vertical type: vmtx and glyf, vmtx and VORG, or nothing, and advance height and origin are made
+ * from its measures. A function that is handed another number as `vertical` refuses by 3. */
+enum suolluvik_vertical { SUOLLUVIK_VMTX_GLYF = 0, SUOLLUVIK_VMTX_VORG = 1, SUOLLUVIK_SYNTHESIZED = 2 };
+
+/* What is made from the unvaried measures; the descent is minus hhea's descender, or OS/2's. */
+void suolluvik_synthesize(float ascent, float descent, float *advance, float *origin);
+
+/* The same at some coordinates, by the MVAR at the offset mvar, 0 for none. With vmtx they stay. */
+uint8_t suolluvik_materialize_glyph_metrics(const uint8_t *font, size_t font_len, uint8_t vertical, uint32_t mvar,
+                                            const int16_t *coords, size_t coords_len, float advance, float origin,
+                                            float *advance_at, float *origin_at);
+
+/* The advance height, the top side bearing and the vertical origin of a glyph, by the VVAR at the offset vvar.
+ * `synthesized` is the advance height, or the origin, that was made; with vmtx it is not used, and of what follows it
+ * only the scale is where it was made, but for the bearing, which is then 0 times the scale. For the origin `unvaried`
+ * is the top side bearing, and `y` the glyph's yMax with glyf, its origin in VORG with that; units_per_em stands for a y
+ * that the font has not. */
+uint8_t suolluvik_advance_height(const uint8_t *font, size_t font_len, uint8_t vertical, uint32_t vvar,
+                                 float synthesized, uint16_t glyph_id, const int16_t *coords, size_t coords_len,
+                                 uint16_t unvaried, float scale, float *value);
+uint8_t suolluvik_tsb(const uint8_t *font, size_t font_len, uint8_t vertical, uint32_t vvar, uint16_t glyph_id,
+                      const int16_t *coords, size_t coords_len, int16_t unvaried, float scale, float *value);
+uint8_t suolluvik_vertical_origin(const uint8_t *font, size_t font_len, uint16_t units_per_em, uint8_t vertical,
+                                  uint32_t vvar, float synthesized, uint16_t glyph_id, const int16_t *coords,
+                                  size_t coords_len, int16_t unvaried, bool has_y, int16_t y, float scale,
+                                  float *value);
 
 #ifdef __cplusplus
 }

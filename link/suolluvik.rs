@@ -1,15 +1,19 @@
 //! Suolluvik for Rust: safe functions over `libsuolluvik.a`, for plain rustc, with no crate from a registry.
 //!
-//! `mod suolluvik;` takes this file in; `link/README.md` says how to link the archive. The names are swash's where swash has
-//! the function. Each takes any bytes, offsets, ids, coordinates and floats, and answers a value or a [`Refusal`]; on a
-//! refusal no lent list changes.
+//! `mod suolluvik;` takes this file in, in a crate of edition 2021; `link/README.md` says how to link the archive, and what to do
+//! in edition 2024. The oldest rustc that it was built by is 1.63. The names are swash's where swash has the function. Each
+//! takes any bytes, offsets, ids, coordinates and floats, and answers a value or a [`Refusal`]; on a refusal no lent list
+//! changes. Where nothing can be refused the value comes alone. None panics.
 //!
 //! A font is the whole file, and offsets count from its start; 0 says that there is no such table. `fvar` is that table
 //! alone. Coordinates are normalised, in 2.14; a missing one is 0. A 16.16 number is its raw integer.
 
-// Nothing checks these against the library's source: they say what suolluvik.h says.
+// `tests/prototypes` holds these to the library's source.
 mod exports {
+    use super::Metrics;
+
     extern "C" {
+        pub fn suolluvik_version() -> u32;
         pub fn suolluvik_advance_delta_fixed(
             font: *const u8,
             font_len: usize,
@@ -137,48 +141,158 @@ mod exports {
             coords: *const i16,
             coords_len: usize,
             has_vertical_metrics: bool,
-            measures: *mut f32,
+            measures: *mut Metrics,
             measures_len: usize,
         ) -> u8;
         pub fn suolluvik_scale_metrics(
             units_per_em: u16,
             ppem: f32,
-            measures: *mut f32,
+            measures: *mut Metrics,
             measures_len: usize,
         ) -> u8;
         pub fn suolluvik_linear_scale_metrics(
             scale: f32,
-            measures: *mut f32,
+            measures: *mut Metrics,
             measures_len: usize,
+        ) -> u8;
+        pub fn suolluvik_scale_glyph_metrics(units_per_em: u16, ppem: f32) -> f32;
+        pub fn suolluvik_advance_width(
+            font: *const u8,
+            font_len: usize,
+            hvar: u32,
+            glyph_id: u16,
+            coords: *const i16,
+            coords_len: usize,
+            unvaried: u16,
+            scale: f32,
+        ) -> f32;
+        pub fn suolluvik_lsb(
+            font: *const u8,
+            font_len: usize,
+            hvar: u32,
+            glyph_id: u16,
+            coords: *const i16,
+            coords_len: usize,
+            unvaried: i16,
+            scale: f32,
+        ) -> f32;
+        pub fn suolluvik_synthesize(ascent: f32, descent: f32, advance: *mut f32, origin: *mut f32);
+        pub fn suolluvik_materialize_glyph_metrics(
+            font: *const u8,
+            font_len: usize,
+            vertical: u8,
+            mvar: u32,
+            coords: *const i16,
+            coords_len: usize,
+            advance: f32,
+            origin: f32,
+            advance_at: *mut f32,
+            origin_at: *mut f32,
+        ) -> u8;
+        pub fn suolluvik_advance_height(
+            font: *const u8,
+            font_len: usize,
+            vertical: u8,
+            vvar: u32,
+            synthesized: f32,
+            glyph_id: u16,
+            coords: *const i16,
+            coords_len: usize,
+            unvaried: u16,
+            scale: f32,
+            value: *mut f32,
+        ) -> u8;
+        pub fn suolluvik_tsb(
+            font: *const u8,
+            font_len: usize,
+            vertical: u8,
+            vvar: u32,
+            glyph_id: u16,
+            coords: *const i16,
+            coords_len: usize,
+            unvaried: i16,
+            scale: f32,
+            value: *mut f32,
+        ) -> u8;
+        pub fn suolluvik_vertical_origin(
+            font: *const u8,
+            font_len: usize,
+            units_per_em: u16,
+            vertical: u8,
+            vvar: u32,
+            synthesized: f32,
+            glyph_id: u16,
+            coords: *const i16,
+            coords_len: usize,
+            unvaried: i16,
+            has_y: bool,
+            y: i16,
+            scale: f32,
+            value: *mut f32,
         ) -> u8;
     }
 }
 
-/// Why there is no value. The numbers are the library's.
+/// The version of the interface that is wrapped here. It rises by one when a function, a refusal or a size of the record of
+/// measures is added; nothing is taken away.
+pub const VERSION: u32 = 1;
+
+/// The version of the library that is linked. Where it is lower than [`VERSION`] the library is older than this file.
+pub fn version() -> u32 {
+    unsafe { exports::suolluvik_version() }
+}
+
+/// Why there is no value. A later version may name more.
 #[derive(Copy, Clone, PartialEq, Eq, Debug)]
-#[repr(u8)]
+#[non_exhaustive]
 pub enum Refusal {
     /// An offset of HVAR, VVAR, of the store or of a bearing map is 0, or an MVAR has no records.
-    Absent = 1,
+    Absent,
     /// A read reaches past the end.
-    Short = 2,
+    Short,
     /// An axis, instance, subtable or region index is not below its count.
-    Index = 3,
+    Index,
     /// A tag is not found.
-    Tag = 4,
+    Tag,
     /// A map count of 0, more words than region indices, an offset of 2^32 or more, an instance size of 0 or 1, a value that
     /// can't be normalised.
-    Arithmetic = 5,
+    Arithmetic,
     /// Tags and values differ in number.
-    Lengths = 6,
-    /// A list is too short for what is to be written.
-    Room = 7,
+    Lengths,
+    /// A list is too short for what is to be written, or the library has no record of measures of this size.
+    Room,
+    /// A number that has no name here: the library is newer than this file.
+    Other(u8),
 }
 
 impl Refusal {
     /// The library's number of it.
     pub fn number(self) -> u8 {
-        self as u8
+        match self {
+            Refusal::Absent => 1,
+            Refusal::Short => 2,
+            Refusal::Index => 3,
+            Refusal::Tag => 4,
+            Refusal::Arithmetic => 5,
+            Refusal::Lengths => 6,
+            Refusal::Room => 7,
+            Refusal::Other(number) => number,
+        }
+    }
+
+    /// The refusal that has a number; none has 0.
+    pub fn of(number: u8) -> Option<Refusal> {
+        Some(match number {
+            0 => return None,
+            1 => Refusal::Absent,
+            2 => Refusal::Short,
+            3 => Refusal::Index,
+            4 => Refusal::Tag,
+            5 => Refusal::Arithmetic,
+            6 => Refusal::Lengths,
+            7 => Refusal::Room,
+            number => Refusal::Other(number),
+        })
     }
 }
 
@@ -190,18 +304,11 @@ impl std::fmt::Display for Refusal {
 
 impl std::error::Error for Refusal {}
 
-/// The value, unless the number is a refusal's. The library answers 0 to 7 and nothing else.
+/// The value, unless the number is a refusal's.
 fn answer<T>(number: u8, value: T) -> Result<T, Refusal> {
-    match number {
-        0 => Ok(value),
-        1 => Err(Refusal::Absent),
-        2 => Err(Refusal::Short),
-        3 => Err(Refusal::Index),
-        4 => Err(Refusal::Tag),
-        5 => Err(Refusal::Arithmetic),
-        6 => Err(Refusal::Lengths),
-        7 => Err(Refusal::Room),
-        _ => unreachable!("a refusal of number {number}"),
+    match Refusal::of(number) {
+        None => Ok(value),
+        Some(refusal) => Err(refusal),
     }
 }
 
@@ -447,32 +554,39 @@ pub fn instance_coords(
     answer(number, count)
 }
 
-/// Where each of a font's measures stands in a list of them, and how many there are.
-pub mod measure {
-    pub const ASCENT: usize = 0;
-    pub const DESCENT: usize = 1;
-    pub const LEADING: usize = 2;
-    pub const VERTICAL_ASCENT: usize = 3;
-    pub const VERTICAL_DESCENT: usize = 4;
-    pub const VERTICAL_LEADING: usize = 5;
-    pub const CAP_HEIGHT: usize = 6;
-    pub const X_HEIGHT: usize = 7;
-    pub const AVERAGE_WIDTH: usize = 8;
-    pub const MAX_WIDTH: usize = 9;
-    pub const UNDERLINE_OFFSET: usize = 10;
-    pub const STRIKEOUT_OFFSET: usize = 11;
-    pub const STROKE_SIZE: usize = 12;
-    pub const COUNT: usize = 13;
+/// A font's measures: the library's record of thirteen floats, with swash's names.
+#[derive(Copy, Clone, PartialEq, Debug, Default)]
+#[repr(C)]
+pub struct Metrics {
+    pub ascent: f32,
+    pub descent: f32,
+    pub leading: f32,
+    pub vertical_ascent: f32,
+    pub vertical_descent: f32,
+    pub vertical_leading: f32,
+    pub cap_height: f32,
+    pub x_height: f32,
+    pub average_width: f32,
+    pub max_width: f32,
+    pub underline_offset: f32,
+    pub strikeout_offset: f32,
+    pub stroke_size: f32,
 }
+
+/// A record goes to the library with how many floats it has.
+const METRICS_FLOATS: usize = std::mem::size_of::<Metrics>() / std::mem::size_of::<f32>();
 
 /// From the unvaried measures those at some coordinates, in place, by the MVAR at the offset mvar, 0 for none; the vertical
 /// ones are shifted only with vertical metrics. Where it does not open, or the coordinate list is empty, they stay.
+///
+/// This and the two below refuse nothing today. Should this file and the library once differ in the record's size, it is
+/// [`Refusal::Room`], and the measures are as they were.
 pub fn materialize_metrics(
     font: &[u8],
     mvar: u32,
     coords: &[i16],
     has_vertical_metrics: bool,
-    measures: &mut [f32],
+    measures: &mut Metrics,
 ) -> Result<(), Refusal> {
     let number = unsafe {
         exports::suolluvik_materialize_metrics(
@@ -482,25 +596,239 @@ pub fn materialize_metrics(
             coords.as_ptr(),
             coords.len(),
             has_vertical_metrics,
-            measures.as_mut_ptr(),
-            measures.len(),
+            measures,
+            METRICS_FLOATS,
         )
     };
     answer(number, ())
 }
 
 /// The measures scaled for pixels per em, in place; by 1 where there are no units per em.
-pub fn scale_metrics(units_per_em: u16, ppem: f32, measures: &mut [f32]) -> Result<(), Refusal> {
-    let number = unsafe {
-        exports::suolluvik_scale_metrics(units_per_em, ppem, measures.as_mut_ptr(), measures.len())
-    };
+pub fn scale_metrics(units_per_em: u16, ppem: f32, measures: &mut Metrics) -> Result<(), Refusal> {
+    let number =
+        unsafe { exports::suolluvik_scale_metrics(units_per_em, ppem, measures, METRICS_FLOATS) };
     answer(number, ())
 }
 
 /// The measures scaled by a factor, in place.
-pub fn linear_scale_metrics(scale: f32, measures: &mut [f32]) -> Result<(), Refusal> {
-    let number = unsafe {
-        exports::suolluvik_linear_scale_metrics(scale, measures.as_mut_ptr(), measures.len())
-    };
+pub fn linear_scale_metrics(scale: f32, measures: &mut Metrics) -> Result<(), Refusal> {
+    let number =
+        unsafe { exports::suolluvik_linear_scale_metrics(scale, measures, METRICS_FLOATS) };
     answer(number, ())
+}
+
+/// What a font has for vertical type: vmtx and glyf, vmtx and VORG, or neither. `vvar` and `mvar` are offsets in the font, 0 for
+/// none; advance and origin are in font units.
+#[derive(Copy, Clone, PartialEq, Debug)]
+pub enum Vertical {
+    VmtxGlyf {
+        vvar: u32,
+    },
+    VmtxVorg {
+        vvar: u32,
+    },
+    Synthesized {
+        mvar: u32,
+        advance: f32,
+        origin: f32,
+    },
+}
+
+impl Vertical {
+    /// What swash synthesizes from a font's unvaried measures, of which the descent is minus OpenType's descender.
+    pub fn synthesize(mvar: u32, ascent: f32, descent: f32) -> Vertical {
+        let (mut advance, mut origin) = (0., 0.);
+        unsafe { exports::suolluvik_synthesize(ascent, descent, &mut advance, &mut origin) };
+        Vertical::Synthesized {
+            mvar,
+            advance,
+            origin,
+        }
+    }
+
+    /// The library's number of the case, and the offset of VVAR.
+    fn number(self) -> (u8, u32) {
+        match self {
+            Vertical::VmtxGlyf { vvar } => (0, vvar),
+            Vertical::VmtxVorg { vvar } => (1, vvar),
+            Vertical::Synthesized { .. } => (2, 0),
+        }
+    }
+
+    /// The synthesized advance and origin, which the library does not use in the other cases.
+    fn synthesized(self) -> (f32, f32) {
+        match self {
+            Vertical::Synthesized {
+                advance, origin, ..
+            } => (advance, origin),
+            _ => (0., 0.),
+        }
+    }
+}
+
+/// What is the same for all glyphs of a font. `hvar` is an offset in the font, 0 for none; a scale of 1 is font units. Each
+/// call is lent the font and the coordinates, and given the glyph's unvaried numbers.
+///
+/// A refused delta is 0, as in swash, and the library refuses nothing else here but the number of a vertical case, of which
+/// [`Vertical`] has only its own: so the values come alone. On a refusal they would be 0.
+#[derive(Copy, Clone, PartialEq, Debug)]
+pub struct GlyphMetrics {
+    pub units_per_em: u16,
+    pub hvar: u32,
+    pub vertical: Vertical,
+    pub scale: f32,
+}
+
+impl GlyphMetrics {
+    /// The same, scaled for pixels per em, whatever the scale was; by 1 where there are no units per em.
+    pub fn scale(self, ppem: f32) -> GlyphMetrics {
+        let scale = unsafe { exports::suolluvik_scale_glyph_metrics(self.units_per_em, ppem) };
+        self.linear_scale(scale)
+    }
+
+    /// The same with this scale, whatever it was.
+    pub fn linear_scale(self, scale: f32) -> GlyphMetrics {
+        GlyphMetrics { scale, ..self }
+    }
+
+    /// From the unvaried ones those at some coordinates: a synthesized case is shifted by MVAR, all else stays.
+    pub fn materialize(self, font: &[u8], coords: &[i16]) -> GlyphMetrics {
+        let mvar = match self.vertical {
+            Vertical::Synthesized { mvar, .. } => mvar,
+            _ => return self,
+        };
+        let (number, _) = self.vertical.number();
+        let (advance, origin) = self.vertical.synthesized();
+        let (mut advance_at, mut origin_at) = (0., 0.);
+        unsafe {
+            exports::suolluvik_materialize_glyph_metrics(
+                font.as_ptr(),
+                font.len(),
+                number,
+                mvar,
+                coords.as_ptr(),
+                coords.len(),
+                advance,
+                origin,
+                &mut advance_at,
+                &mut origin_at,
+            )
+        };
+        let vertical = Vertical::Synthesized {
+            mvar,
+            advance: advance_at,
+            origin: origin_at,
+        };
+        GlyphMetrics { vertical, ..self }
+    }
+
+    /// The advance width of a glyph, from hmtx's.
+    pub fn advance_width(&self, font: &[u8], glyph_id: u16, coords: &[i16], unvaried: u16) -> f32 {
+        unsafe {
+            exports::suolluvik_advance_width(
+                font.as_ptr(),
+                font.len(),
+                self.hvar,
+                glyph_id,
+                coords.as_ptr(),
+                coords.len(),
+                unvaried,
+                self.scale,
+            )
+        }
+    }
+
+    /// The left side bearing of a glyph, from hmtx's.
+    pub fn lsb(&self, font: &[u8], glyph_id: u16, coords: &[i16], unvaried: i16) -> f32 {
+        unsafe {
+            exports::suolluvik_lsb(
+                font.as_ptr(),
+                font.len(),
+                self.hvar,
+                glyph_id,
+                coords.as_ptr(),
+                coords.len(),
+                unvaried,
+                self.scale,
+            )
+        }
+    }
+
+    /// The advance height of a glyph, from vmtx's; or the synthesized one.
+    pub fn advance_height(&self, font: &[u8], glyph_id: u16, coords: &[i16], unvaried: u16) -> f32 {
+        let (number, vvar) = self.vertical.number();
+        let (advance, _) = self.vertical.synthesized();
+        let mut value = 0.;
+        unsafe {
+            exports::suolluvik_advance_height(
+                font.as_ptr(),
+                font.len(),
+                number,
+                vvar,
+                advance,
+                glyph_id,
+                coords.as_ptr(),
+                coords.len(),
+                unvaried,
+                self.scale,
+                &mut value,
+            )
+        };
+        value
+    }
+
+    /// The top side bearing of a glyph, from vmtx's; or a synthesized 0, scaled too.
+    pub fn tsb(&self, font: &[u8], glyph_id: u16, coords: &[i16], unvaried: i16) -> f32 {
+        let (number, vvar) = self.vertical.number();
+        let mut value = 0.;
+        unsafe {
+            exports::suolluvik_tsb(
+                font.as_ptr(),
+                font.len(),
+                number,
+                vvar,
+                glyph_id,
+                coords.as_ptr(),
+                coords.len(),
+                unvaried,
+                self.scale,
+                &mut value,
+            )
+        };
+        value
+    }
+
+    /// The vertical origin of a glyph, from its unvaried top side bearing and from y: its yMax with glyf, its origin there with
+    /// VORG, if the font has one; or the synthesized one.
+    pub fn vertical_origin(
+        &self,
+        font: &[u8],
+        glyph_id: u16,
+        coords: &[i16],
+        unvaried: i16,
+        y: Option<i16>,
+    ) -> f32 {
+        let (number, vvar) = self.vertical.number();
+        let (_, origin) = self.vertical.synthesized();
+        let mut value = 0.;
+        unsafe {
+            exports::suolluvik_vertical_origin(
+                font.as_ptr(),
+                font.len(),
+                self.units_per_em,
+                number,
+                vvar,
+                origin,
+                glyph_id,
+                coords.as_ptr(),
+                coords.len(),
+                unvaried,
+                y.is_some(),
+                y.unwrap_or(0),
+                self.scale,
+                &mut value,
+            )
+        };
+        value
+    }
 }

@@ -3,8 +3,8 @@
  * last line is 'N passed, M failed', and the status 1 where one failed. tests/link builds and runs this. */
 #include "suolluvik.h"
 #include <math.h>
-
 #include <stdio.h>
+#include <string.h>
 
 static int passed, failed;
 
@@ -374,62 +374,290 @@ static void try_coords(void)
 
 /* Measures. */
 
-#define COUNT SUOLLUVIK_MEASURES
-static const float unvaried[COUNT] = {800, 200, 90, 500, 400, 0, 700, 500, 550, 1200, -100, 300, 50};
+static const suolluvik_metrics unvaried = {800, 200, 90, 500, 400, 0, 700, 500, 550, 1200, -100, 300, 50};
 /* the rows of MEASURES at 8192, each a half of its entry: + 50, - 30, + 5, + 100, - 50, + 7, + 20, + 15, - 4, + 6, + 3 */
-static const float varied[COUNT] = {850, 170, 95, 600, 350, 7, 720, 515, 550, 1200, -104, 306, 53};
-static const float no_vertical[COUNT] = {850, 170, 95, 500, 400, 0, 720, 515, 550, 1200, -104, 306, 53};
+static const suolluvik_metrics varied = {850, 170, 95, 600, 350, 7, 720, 515, 550, 1200, -104, 306, 53};
+static const suolluvik_metrics no_vertical = {850, 170, 95, 500, 400, 0, 720, 515, 550, 1200, -104, 306, 53};
 
 enum change { MATERIALIZE, MATERIALIZE_VERTICAL, SCALE, LINEAR_SCALE };
 
-/* What is done to a list of len of 14 elements, the last of which is no measure. */
+/* What is done to a record of len floats; the one behind the thirteen is no measure. */
 static void try_measures(const char *name, enum change change, const char *hex, uint32_t mvar, int16_t coord,
                          size_t coords_len, uint16_t units_per_em, float scale, size_t len, uint8_t number,
-                         const float *expected, float factor)
+                         suolluvik_metrics expected, float factor)
 {
     static const char *const names[] = {"materialize_metrics", "materialize_metrics", "scale_metrics",
                                         "linear_scale_metrics"};
     struct bytes font = bytes(hex);
-    float measures[COUNT + 1];
+    struct {
+        suolluvik_metrics measures;
+        float behind;
+    } record;
+    float found_floats[SUOLLUVIK_METRICS_FLOATS], expected_floats[SUOLLUVIK_METRICS_FLOATS];
     uint8_t found;
-    int i, same;
-    for (i = 0; i < COUNT; i++)
-        measures[i] = unvaried[i];
-    measures[COUNT] = -77;
+    size_t i;
+    int same;
+    record.measures = unvaried;
+    record.behind = -77;
     if (change == SCALE)
-        found = suolluvik_scale_metrics(units_per_em, scale, measures, len);
+        found = suolluvik_scale_metrics(units_per_em, scale, &record.measures, len);
     else if (change == LINEAR_SCALE)
-        found = suolluvik_linear_scale_metrics(scale, measures, len);
+        found = suolluvik_linear_scale_metrics(scale, &record.measures, len);
     else
         found = suolluvik_materialize_metrics(font.at, font.len, mvar, &coord, coords_len,
-                                              change == MATERIALIZE_VERTICAL, measures, len);
-    same = found == number && measures[COUNT] == -77;
-    for (i = 0; i < COUNT; i++)
-        same = same && measures[i] == expected[i] * factor;
+                                              change == MATERIALIZE_VERTICAL, &record.measures, len);
+    memcpy(found_floats, &record.measures, sizeof found_floats);
+    memcpy(expected_floats, &expected, sizeof expected_floats);
+    same = found == number && record.behind == -77;
+    for (i = 0; i < SUOLLUVIK_METRICS_FLOATS; i++)
+        same = same && found_floats[i] == expected_floats[i] * factor;
     check(same, names[change], name);
 }
 
 static void try_all_measures(void)
 {
     const enum change plain = MATERIALIZE, vertical = MATERIALIZE_VERTICAL;
+    check(SUOLLUVIK_METRICS_FLOATS == 13, "suolluvik_metrics", "thirteen floats");
     try_measures("13, vertical", vertical, MEASURES, 4, 8192, 1, 0, 0, 13, 0, varied, 1);
-    try_measures("14, vertical", vertical, MEASURES, 4, 8192, 1, 0, 0, 14, 0, varied, 1);
     try_measures("13, not vertical", plain, MEASURES, 4, 8192, 1, 0, 0, 13, 0, no_vertical, 1);
     try_measures("12", vertical, MEASURES, 4, 8192, 1, 0, 0, 12, 7, unvaried, 1);
-    try_measures("an empty list", vertical, MEASURES, 4, 8192, 1, 0, 0, 0, 7, unvaried, 1);
+    try_measures("14", vertical, MEASURES, 4, 8192, 1, 0, 0, 14, 7, unvaried, 1);
+    try_measures("no float", vertical, MEASURES, 4, 8192, 1, 0, 0, 0, 7, unvaried, 1);
     try_measures("at the default", vertical, MEASURES, 4, 0, 1, 0, 0, 13, 0, unvaried, 1);
     try_measures("no coordinates", vertical, MEASURES, 4, 8192, 0, 0, 0, 13, 0, unvaried, 1);
+    try_measures("no coordinates, 14", vertical, MEASURES, 4, 8192, 0, 0, 0, 14, 7, unvaried, 1);
     try_measures("no MVAR", vertical, MEASURES, 0, 8192, 1, 0, 0, 13, 0, unvaried, 1);
     try_measures("an MVAR that does not open", vertical, MEASURES, 255, 8192, 1, 0, 0, 13, 0, unvaried, 1);
     try_measures("refused deltas", vertical, MVAR_HEADER("000b", "0064") RECORDS ROWS("0002"), 4, 8192, 1, 0, 0, 13, 0,
                  unvaried, 1);
-    try_measures("16 over 2048, 13", SCALE, "", 0, 0, 0, 2048, 16, 13, 0, unvaried, 0.0078125f);
-    try_measures("16 over 2000, 14", SCALE, "", 0, 0, 0, 2000, 16, 14, 0, unvaried, 16.0f / 2000.0f);
+    try_measures("16 over 2048", SCALE, "", 0, 0, 0, 2048, 16, 13, 0, unvaried, 0.0078125f);
+    try_measures("16 over 2000", SCALE, "", 0, 0, 0, 2000, 16, 13, 0, unvaried, 16.0f / 2000.0f);
     try_measures("no units per em", SCALE, "", 0, 0, 0, 0, 16, 13, 0, unvaried, 1);
     try_measures("12", SCALE, "", 0, 0, 0, 2048, 16, 12, 7, unvaried, 1);
-    try_measures("by -3, 13", LINEAR_SCALE, "", 0, 0, 0, 0, -3, 13, 0, unvaried, -3);
-    try_measures("by 0.1, 14", LINEAR_SCALE, "", 0, 0, 0, 0, 0.1f, 14, 0, unvaried, 0.1f);
+    try_measures("14", SCALE, "", 0, 0, 0, 2048, 16, 14, 7, unvaried, 1);
+    try_measures("by -3", LINEAR_SCALE, "", 0, 0, 0, 0, -3, 13, 0, unvaried, -3);
+    try_measures("by 0.1", LINEAR_SCALE, "", 0, 0, 0, 0, 0.1f, 13, 0, unvaried, 0.1f);
     try_measures("12", LINEAR_SCALE, "", 0, 0, 0, 0, 2, 12, 7, unvaried, 1);
+    try_measures("14", LINEAR_SCALE, "", 0, 0, 0, 0, 2, 14, 7, unvaried, 1);
+}
+
+/* Glyph metrics. */
+
+/* H1 with a map of its own for bearings: at all coordinates the advances of its glyphs vary by 10, 11 and 12, and every
+ * bearing by 12. */
+#define GLYPHS HVAR("00000018", "00000010", "00000033") MAP H1_ROWS("0000", "0000") "0007 0001 02"
+/* An MVAR at 4 that varies at all coordinates: hasc by 2, hdsc by 3; and one without records. */
+#define ALWAYS(records) \
+    MVAR_HEADER(records, "0064") RECORDS \
+    "0001 0000000c 0001 00000010 0000 0001 000b 0000 0001 0000 01020304 05060708 090a0b"
+
+enum { GLYF = SUOLLUVIK_VMTX_GLYF, VORG = SUOLLUVIK_VMTX_VORG, MADE = SUOLLUVIK_SYNTHESIZED };
+
+/* One float is another, the sign of a zero included; any NaN is any other. */
+static int same_float(float found, float expected)
+{
+    return isnan(expected) ? isnan(found) : found == expected && !signbit(found) == !signbit(expected);
+}
+
+static void try_widths(void)
+{
+    struct bytes font = bytes(GLYPHS), s1 = bytes(S1), far = bytes("00000000 00010000 fffffffc");
+    int16_t coord = 8192;
+    check(same_float(suolluvik_advance_width(font.at, font.len, 4, 0, &coord, 0, 500, 2), 1020), "advance_width",
+          "(500 + 10) * 2");
+    check(same_float(suolluvik_advance_width(s1.at, s1.len, 4, 0, &coord, 1, 65535, 1), 65585), "advance_width",
+          "S1 at 8192, the largest");
+    check(same_float(suolluvik_advance_width(font.at, font.len, 0, 0, &coord, 1, 500, 2), 1000), "advance_width",
+          "no HVAR");
+    check(same_float(suolluvik_advance_width(far.at, far.len, 4, 0, &coord, 1, 500, 1), 500), "advance_width",
+          "a refused delta");
+    check(same_float(suolluvik_lsb(font.at, font.len, 4, 0, &coord, 0, -20, 2), -16), "lsb", "(-20 + 12) * 2");
+    check(same_float(suolluvik_lsb(s1.at, s1.len, 4, 0, &coord, 1, -32768, 0.5f), -16384), "lsb", "no map, the least");
+    check(same_float(suolluvik_scale_glyph_metrics(1000, 2000), 2), "scale_glyph_metrics", "2000 over 1000");
+    check(same_float(suolluvik_scale_glyph_metrics(2048, 16), 0.0078125f), "scale_glyph_metrics", "16 over 2048");
+    check(same_float(suolluvik_scale_glyph_metrics(0, NAN), 1), "scale_glyph_metrics", "no units per em");
+    check(same_float(suolluvik_scale_glyph_metrics(1000, -INFINITY), -INFINITY), "scale_glyph_metrics", "infinite");
+}
+
+static void try_height(const char *name, uint8_t vertical, uint32_t vvar, float synthesized, float scale,
+                       uint8_t number, float expected)
+{
+    struct bytes font = bytes(GLYPHS);
+    float value = 123.5f;
+    uint8_t found = suolluvik_advance_height(font.at, font.len, vertical, vvar, synthesized, 1, NULL, 0, 500, scale,
+                                             &value);
+    check(found == number && same_float(value, expected), "advance_height", name);
+}
+
+static void try_top(const char *name, uint8_t vertical, uint32_t vvar, float scale, uint8_t number, float expected)
+{
+    struct bytes font = bytes(GLYPHS);
+    float value = 123.5f;
+    uint8_t found = suolluvik_tsb(font.at, font.len, vertical, vvar, 1, NULL, 0, -20, scale, &value);
+    check(found == number && same_float(value, expected), "tsb", name);
+}
+
+static void try_origin(const char *name, uint16_t units_per_em, uint8_t vertical, uint32_t vvar, float synthesized,
+                       bool has_y, int16_t y, uint8_t number, float expected)
+{
+    struct bytes font = bytes(GLYPHS);
+    float value = 123.5f;
+    uint8_t found = suolluvik_vertical_origin(font.at, font.len, units_per_em, vertical, vvar, synthesized, 0, NULL, 0,
+                                              1, has_y, y, 2, &value);
+    check(found == number && same_float(value, expected), "vertical_origin", name);
+}
+
+static void try_made(const char *name, const char *hex, uint8_t vertical, uint32_t mvar, size_t coords_len,
+                     float advance, float origin, uint8_t number, float advance_at, float origin_at)
+{
+    struct bytes font = bytes(hex);
+    int16_t coord = 8192;
+    float found_advance = 123.5f, found_origin = 123.5f;
+    uint8_t found = suolluvik_materialize_glyph_metrics(font.at, font.len, vertical, mvar, &coord, coords_len, advance,
+                                                        origin, &found_advance, &found_origin);
+    check(found == number && same_float(found_advance, advance_at) && same_float(found_origin, origin_at),
+          "materialize_glyph_metrics", name);
+}
+
+static void try_vertical(void)
+{
+    float advance = 123.5f, origin = 123.5f;
+    check(GLYF == 0 && VORG == 1 && MADE == 2, "suolluvik_vertical", "numbers");
+
+    try_height("glyf, by VVAR", GLYF, 4, 1000, 2, 0, 1022);
+    try_height("VORG, by VVAR", VORG, 4, 1000, 2, 0, 1022);
+    try_height("VORG, no VVAR", VORG, 0, 1000, 2, 0, 1000);
+    try_height("synthesized", MADE, 4, 1000, 2, 0, 2000);
+    try_height("vertical case 3", 3, 4, 1000, 2, 3, 0);
+    try_height("vertical case 255", 255, 4, 1000, 2, 3, 0);
+
+    try_top("glyf, by VVAR", GLYF, 4, 2, 0, -16);
+    try_top("VORG, by VVAR", VORG, 4, 2, 0, -16);
+    try_top("glyf, no VVAR", GLYF, 0, 2, 0, -40);
+    try_top("synthesized, scaled by -1", MADE, 4, -1, 0, -0.0f);
+    try_top("synthesized, scaled by what is infinite", MADE, 4, INFINITY, 0, NAN);
+    try_top("vertical case 3", 3, 4, 2, 3, 0);
+    try_top("vertical case 255", 255, 4, 2, 3, 0);
+
+    /* with glyf the bearing is scaled twice, as in swash */
+    try_origin("glyf, yMax 0", 1000, GLYF, 0, 800, true, 0, 0, 4);
+    try_origin("glyf, yMax 10, by VVAR", 1000, GLYF, 4, 800, true, 10, 0, 72);
+    try_origin("glyf, no yMax", 40000, GLYF, 4, 800, false, 10, 0, 80000);
+    try_origin("VORG, 880", 1000, VORG, 4, 800, true, 880, 0, 1760);
+    try_origin("VORG, none: signed", 40000, VORG, 4, 800, false, 880, 0, -51072);
+    try_origin("synthesized", 1000, MADE, 4, 800, true, 7, 0, 1600);
+    try_origin("vertical case 3", 1000, 3, 4, 800, true, 10, 3, 0);
+    try_origin("vertical case 255", 1000, 255, 4, 800, false, 10, 3, 0);
+
+    try_made("hasc 50 and hdsc -30", MEASURES, MADE, 4, 1, 1000, 800, 0, 1020, 850);
+    try_made("the deltas are added first", ALWAYS("000b"), MADE, 4, 1, 33554436, 0, 0, 33554440, 2);
+    try_made("no coordinates", ALWAYS("000b"), MADE, 4, 0, 1000, 800, 0, 1000, 800);
+    try_made("no MVAR", ALWAYS("000b"), MADE, 0, 1, 1000, 800, 0, 1000, 800);
+    try_made("an MVAR that does not open", ALWAYS("0000"), MADE, 4, 1, -0.0f, -0.0f, 0, -0.0f, -0.0f);
+    try_made("glyf", MEASURES, GLYF, 4, 1, 1000, 800, 0, 1000, 800);
+    try_made("VORG", MEASURES, VORG, 4, 1, 1000, 800, 0, 1000, 800);
+    try_made("vertical case 3", MEASURES, 3, 4, 1, 1000, 800, 3, 0, 0);
+    try_made("vertical case 255", MEASURES, 255, 4, 1, 1000, 800, 3, 0, 0);
+
+    suolluvik_synthesize(800, 200, &advance, &origin);
+    check(advance == 1000 && origin == 800, "synthesize", "800 and 200");
+}
+
+/* NULL with length 0 is an empty list, in the place of each list of each function. */
+
+static void try_null_deltas(void)
+{
+    struct bytes h1 = bytes(H1), mvar = bytes(MEASURES);
+    int16_t coord = 8192;
+    int32_t value = 77;
+    float real = 77;
+    check(suolluvik_advance_delta_fixed(NULL, 0, 4, 0, &coord, 1, &value) == 2 && value == 0, "advance_delta_fixed", "no font");
+    check(suolluvik_advance_delta_fixed(h1.at, h1.len, 4, 0, NULL, 0, &value) == 0 && value == 655360, "advance_delta_fixed", "NULL");
+    check(suolluvik_advance_delta(NULL, 0, 4, 0, &coord, 1, &real) == 2 && real == 0, "advance_delta", "no font");
+    check(suolluvik_advance_delta(h1.at, h1.len, 4, 0, NULL, 0, &real) == 0 && real == 10, "advance_delta", "NULL");
+    value = 77, real = 77;
+    check(suolluvik_sb_delta_fixed(NULL, 0, 4, 0, &coord, 1, &value) == 2 && value == 0, "sb_delta_fixed", "no font");
+    check(suolluvik_sb_delta_fixed(h1.at, h1.len, 4, 0, NULL, 0, &value) == 0 && value == 655360, "sb_delta_fixed", "NULL");
+    check(suolluvik_sb_delta(NULL, 0, 4, 0, &coord, 1, &real) == 2 && real == 0, "sb_delta", "no font");
+    check(suolluvik_sb_delta(h1.at, h1.len, 4, 0, NULL, 0, &real) == 0 && real == 10, "sb_delta", "NULL");
+    value = 77, real = 77;
+    check(suolluvik_mvar_delta_fixed(NULL, 0, 4, HASC, &coord, 1, &value) == 2 && value == 0, "mvar_delta_fixed", "no font");
+    check(suolluvik_mvar_delta(NULL, 0, 4, HASC, &coord, 1, &real) == 2 && real == 0, "mvar_delta", "no font");
+    value = 77, real = 77;
+    check(suolluvik_mvar_delta_fixed(mvar.at, mvar.len, 4, HASC, NULL, 0, &value) == 0 && value == 0, "mvar_delta_fixed", "NULL");
+    check(suolluvik_mvar_delta(mvar.at, mvar.len, 4, HASC, NULL, 0, &real) == 0 && real == 0, "mvar_delta", "NULL");
+}
+
+static void try_null_axes(void)
+{
+    struct bytes two = bytes(TWO), avar = bytes(AVAR);
+    uint32_t tag = 77;
+    int32_t least = 77, middle = 77, most = 77;
+    uint16_t index = 77, flags = 77, name_id = 77, id = 77, count = 77;
+    uint8_t has = 77;
+    int16_t out[2] = {-77, -77};
+    uint32_t tags[] = {SLANT};
+    float values[] = {-5}, floats[2] = {-77, -77};
+
+    check(suolluvik_axis_count(NULL, 0) == 0, "axis_count", "NULL");
+    check(suolluvik_instance_count(NULL, 0) == 0, "instance_count", "NULL");
+    check(suolluvik_axis(NULL, 0, 0, &tag, &least, &middle, &most, &flags, &name_id) == 3 && tag == 0, "axis", "NULL");
+    check(suolluvik_axis_by_tag(NULL, 0, WEIGHT, &index, &least, &middle, &most, &flags, &name_id) == 4 && index == 0, "axis_by_tag", "NULL");
+    check(suolluvik_instance(NULL, 0, 0, &name_id, &has, &id) == 3 && has == 0, "instance", "NULL");
+
+    check(suolluvik_instance_floats(NULL, 0, 0, floats, 2, &count) == 3 && count == 0 && floats[0] == -77, "instance_floats", "NULL for fvar");
+    check(suolluvik_instance_floats(two.at, two.len, 0, NULL, 0, &count) == 7, "instance_floats", "NULL for out");
+
+    count = 77;
+    check(suolluvik_normalized_coords(NULL, 0, NULL, 0, 0, NULL, 0, NULL, 0, NULL, 0, &count) == 0 && count == 0, "normalized_coords", "NULL for all");
+    check(suolluvik_normalized_coords(two.at, two.len, NULL, 0, 4, tags, 1, values, 1, out, 2, &count) == 0 && count == 2 && out[0] == 0 && out[1] == -8192, "normalized_coords", "NULL for the font");
+    check(suolluvik_normalized_coords(two.at, two.len, avar.at, avar.len, 0, NULL, 0, NULL, 0, out, 2, &count) == 0 && out[1] == 0, "normalized_coords", "NULL for the settings");
+    check(suolluvik_normalized_coords(two.at, two.len, avar.at, avar.len, 0, NULL, 0, values, 1, out, 2, &count) == 6, "normalized_coords", "NULL for the tags");
+    check(suolluvik_normalized_coords(two.at, two.len, avar.at, avar.len, 0, tags, 1, NULL, 0, out, 2, &count) == 6, "normalized_coords", "NULL for the values");
+    check(suolluvik_normalized_coords(two.at, two.len, avar.at, avar.len, 0, tags, 1, values, 1, NULL, 0, &count) == 7 && count == 0, "normalized_coords", "NULL for out");
+
+    count = 77;
+    check(suolluvik_instance_coords(NULL, 0, avar.at, avar.len, 0, 0, out, 2, &count) == 3 && count == 0, "instance_coords", "NULL for fvar");
+    check(suolluvik_instance_coords(two.at, two.len, NULL, 0, 0, 0, out, 2, &count) == 0 && out[0] == 8192, "instance_coords", "NULL for the font");
+    check(suolluvik_instance_coords(two.at, two.len, avar.at, avar.len, 0, 0, NULL, 0, &count) == 7, "instance_coords", "NULL for out");
+}
+
+static void try_null_metrics(void)
+{
+    struct bytes font = bytes(GLYPHS), mvar = bytes(MEASURES);
+    suolluvik_metrics measures = unvaried;
+    int16_t coord = 8192;
+    float advance = 77, origin = 77, value = 77;
+
+    check(suolluvik_materialize_metrics(NULL, 0, 4, &coord, 1, true, &measures, 13) == 0 && measures.ascent == 800, "materialize_metrics", "NULL for the font");
+    check(suolluvik_materialize_metrics(mvar.at, mvar.len, 4, NULL, 0, true, &measures, 13) == 0 && measures.ascent == 800, "materialize_metrics", "NULL for the coordinates");
+    check(suolluvik_materialize_metrics(mvar.at, mvar.len, 4, &coord, 1, true, NULL, 0) == 7, "materialize_metrics", "NULL for the measures");
+    check(suolluvik_scale_metrics(2048, 16, NULL, 0) == 7, "scale_metrics", "NULL");
+    check(suolluvik_linear_scale_metrics(2, NULL, 0) == 7, "linear_scale_metrics", "NULL");
+
+    check(suolluvik_advance_width(NULL, 0, 4, 0, &coord, 1, 500, 2) == 1000, "advance_width", "NULL for the font");
+    check(suolluvik_advance_width(font.at, font.len, 4, 0, NULL, 0, 500, 2) == 1020, "advance_width", "NULL for the coordinates");
+    check(suolluvik_lsb(NULL, 0, 4, 0, &coord, 1, -20, 2) == -40, "lsb", "NULL for the font");
+    check(suolluvik_lsb(font.at, font.len, 4, 0, NULL, 0, -20, 2) == -16, "lsb", "NULL for the coordinates");
+
+    /* that NULL is taken for the coordinates here, try_vertical has */
+    check(suolluvik_advance_height(NULL, 0, GLYF, 4, 0, 1, &coord, 1, 500, 2, &value) == 0 && value == 1000, "advance_height", "NULL for the font");
+    check(suolluvik_tsb(NULL, 0, GLYF, 4, 1, &coord, 1, -20, 2, &value) == 0 && value == -40, "tsb", "NULL for the font");
+    check(suolluvik_vertical_origin(NULL, 0, 1000, GLYF, 4, 0, 1, &coord, 1, 1, true, 10, 2, &value) == 0 && value == 24, "vertical_origin", "NULL for the font");
+
+    check(suolluvik_materialize_glyph_metrics(NULL, 0, MADE, 4, &coord, 1, 1000, 800, &advance, &origin) == 0 && advance == 1000 && origin == 800, "materialize_glyph_metrics", "NULL for the font");
+    advance = 77, origin = 77;
+    check(suolluvik_materialize_glyph_metrics(mvar.at, mvar.len, MADE, 4, NULL, 0, 1000, 800, &advance, &origin) == 0 && advance == 1000 && origin == 800, "materialize_glyph_metrics", "NULL for the coordinates");
+}
+
+static void try_names(void)
+{
+    static const int refusals[] = {SUOLLUVIK_OK,         SUOLLUVIK_ABSENT,  SUOLLUVIK_SHORT, SUOLLUVIK_INDEX, SUOLLUVIK_TAG,
+                                   SUOLLUVIK_ARITHMETIC, SUOLLUVIK_LENGTHS, SUOLLUVIK_ROOM};
+    int i;
+    for (i = 0; i < 8; i++)
+        check(refusals[i] == i, "suolluvik_refusal", "numbers");
+    check(suolluvik_version() == SUOLLUVIK_VERSION, "version", "the header's");
 }
 
 int main(void)
@@ -440,6 +668,12 @@ int main(void)
     try_instances();
     try_coords();
     try_all_measures();
+    try_widths();
+    try_vertical();
+    try_null_deltas();
+    try_null_axes();
+    try_null_metrics();
+    try_names();
     printf("%d passed, %d failed\n", passed, failed);
     return failed != 0;
 }

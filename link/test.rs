@@ -7,7 +7,7 @@ mod suolluvik;
 
 use std::fmt::Debug;
 use std::process::ExitCode;
-use suolluvik::{measure, Axis, Instance, Refusal, Refusal::*};
+use suolluvik::{Axis, GlyphMetrics, Instance, Metrics, Refusal, Refusal::*, Vertical};
 
 #[derive(Default)]
 struct Test {
@@ -633,128 +633,230 @@ fn coords(t: &mut Test) {
     );
 }
 
-const UNVARIED: [f32; 14] = [
-    800., 200., 90., 500., 400., 0., 700., 500., 550., 1200., -100., 300., 50., -77.,
-];
+const UNVARIED: Metrics = Metrics {
+    ascent: 800.,
+    descent: 200.,
+    leading: 90.,
+    vertical_ascent: 500.,
+    vertical_descent: 400.,
+    vertical_leading: 0.,
+    cap_height: 700.,
+    x_height: 500.,
+    average_width: 550.,
+    max_width: 1200.,
+    underline_offset: -100.,
+    strikeout_offset: 300.,
+    stroke_size: 50.,
+};
+
+/// UNVARIED, each times a factor.
+fn scaled(factor: f32) -> Metrics {
+    Metrics {
+        ascent: 800. * factor,
+        descent: 200. * factor,
+        leading: 90. * factor,
+        vertical_ascent: 500. * factor,
+        vertical_descent: 400. * factor,
+        vertical_leading: 0. * factor,
+        cap_height: 700. * factor,
+        x_height: 500. * factor,
+        average_width: 550. * factor,
+        max_width: 1200. * factor,
+        underline_offset: -100. * factor,
+        strikeout_offset: 300. * factor,
+        stroke_size: 50. * factor,
+    }
+}
 
 fn measures(t: &mut Test) {
     let font = &bytes(MVAR)[..];
     // the rows at 8192, each a half of its entry
-    let mut varied = UNVARIED;
-    varied[measure::ASCENT] = 800. + 50.;
-    varied[measure::DESCENT] = 200. - 30.;
-    varied[measure::LEADING] = 90. + 5.;
-    varied[measure::CAP_HEIGHT] = 700. + 20.;
-    varied[measure::X_HEIGHT] = 500. + 15.;
-    varied[measure::AVERAGE_WIDTH] = 550.;
-    varied[measure::MAX_WIDTH] = 1200.;
-    varied[measure::UNDERLINE_OFFSET] = -100. - 4.;
-    varied[measure::STRIKEOUT_OFFSET] = 300. + 6.;
-    varied[measure::STROKE_SIZE] = 50. + 3.;
-    let mut vertical = varied;
-    vertical[measure::VERTICAL_ASCENT] = 500. + 100.;
-    vertical[measure::VERTICAL_DESCENT] = 400. - 50.;
-    vertical[measure::VERTICAL_LEADING] = 0. + 7.;
+    let varied = Metrics {
+        ascent: 800. + 50.,
+        descent: 200. - 30.,
+        leading: 90. + 5.,
+        cap_height: 700. + 20.,
+        x_height: 500. + 15.,
+        underline_offset: -100. - 4.,
+        strikeout_offset: 300. + 6.,
+        stroke_size: 50. + 3.,
+        ..UNVARIED
+    };
+    let vertical = Metrics {
+        vertical_ascent: 500. + 100.,
+        vertical_descent: 400. - 50.,
+        vertical_leading: 0. + 7.,
+        ..varied
+    };
 
-    let mut changes = |name: &str,
-                       len,
-                       change: &dyn Fn(&mut [f32]) -> Result<(), Refusal>,
-                       expected: [f32; 14]| {
+    let mut materialize = |name: &str, mvar, coords: &[i16], vertical, expected: Metrics| {
         let mut measures = UNVARIED;
-        let found = change(&mut measures[..len]);
-        let ok = if len < measure::COUNT {
-            Err(Room)
-        } else {
-            Ok(())
-        };
-        t.same(name, (found, measures), (ok, expected));
+        let found = suolluvik::materialize_metrics(font, mvar, coords, vertical, &mut measures);
+        t.same(
+            &format!("materialize_metrics: {name}"),
+            (found, measures),
+            (Ok(()), expected),
+        );
     };
-    let materialize = |mvar, coords: &'static [i16], vertical| {
-        move |measures: &mut [f32]| {
-            suolluvik::materialize_metrics(font, mvar, coords, vertical, measures)
-        }
-    };
-    changes(
-        "materialize_metrics: 13",
-        13,
-        &materialize(4, &[8192], false),
-        varied,
-    );
-    changes(
-        "materialize_metrics: 14, vertical",
-        14,
-        &materialize(4, &[8192], true),
+    materialize("not vertical", 4, &[8192], false, varied);
+    materialize("vertical", 4, &[8192], true, vertical);
+    materialize("no coordinates", 4, &[], true, UNVARIED);
+    materialize("no MVAR", 0, &[8192], true, UNVARIED);
+    materialize("none that opens", 255, &[8192], true, UNVARIED);
+
+    for (units_per_em, ppem, factor) in [
+        (2048, 16., 0.0078125),
+        (2000, 16., 16. / 2000.),
+        (0, 16., 1.),
+    ] {
+        let mut measures = UNVARIED;
+        let found = suolluvik::scale_metrics(units_per_em, ppem, &mut measures);
+        t.same("scale_metrics", (found, measures), (Ok(()), scaled(factor)));
+    }
+    for factor in [-3., 0.1] {
+        let mut measures = UNVARIED;
+        let found = suolluvik::linear_scale_metrics(factor, &mut measures);
+        t.same(
+            "linear_scale_metrics",
+            (found, measures),
+            (Ok(()), scaled(factor)),
+        );
+    }
+}
+
+// H1 with a map of its own for bearings: at all coordinates the advances of its glyphs vary by 10, 11 and 12, and every
+// bearing by 12.
+const GLYPHS: &str = "00000000 00010000 00000018 00000010 00000033 0007 0003 000102 00 \
+    0001 0000000c 0001 00000010 0000 0001 0003 0000 0001 0000 0a0b0c 0007 0001 02";
+const GLYF: Vertical = Vertical::VmtxGlyf { vvar: 4 };
+const VORG: Vertical = Vertical::VmtxVorg { vvar: 4 };
+
+fn at(units_per_em: u16, vertical: Vertical, scale: f32) -> GlyphMetrics {
+    GlyphMetrics {
+        units_per_em,
+        hvar: 4,
         vertical,
+        scale,
+    }
+}
+
+fn glyphs(t: &mut Test) {
+    let font = &bytes(GLYPHS)[..];
+    let made = Vertical::synthesize(4, 800., 200.);
+    let expected = Vertical::Synthesized {
+        mvar: 4,
+        advance: 1000.,
+        origin: 800.,
+    };
+    t.same("Vertical::synthesize", made, expected);
+
+    let plain = at(1000, made, 2.);
+    let found = plain.advance_width(font, 0, &[], 500);
+    t.same("advance_width", found, (500. + 10.) * 2.);
+    t.same("lsb", plain.lsb(font, 0, &[], -20), (-20. + 12.) * 2.);
+    let none = GlyphMetrics { hvar: 0, ..plain };
+    t.same(
+        "advance_width: no HVAR",
+        none.advance_width(font, 0, &[], 500),
+        1000.,
     );
-    changes(
-        "materialize_metrics: 12",
-        12,
-        &materialize(4, &[8192], true),
-        UNVARIED,
-    );
-    changes(
-        "materialize_metrics: no coordinates",
-        13,
-        &materialize(4, &[], true),
-        UNVARIED,
-    );
-    changes(
-        "materialize_metrics: no MVAR",
-        13,
-        &materialize(0, &[8192], true),
-        UNVARIED,
-    );
-    changes(
-        "materialize_metrics: none that opens",
-        13,
-        &materialize(255, &[8192], true),
-        UNVARIED,
+    t.same(
+        "advance_width: no font",
+        plain.advance_width(&[], 0, &[], 500),
+        1000.,
     );
 
-    let scaled = |factor: f32| {
-        let mut measures = UNVARIED;
-        measures[..measure::COUNT]
-            .iter_mut()
-            .for_each(|m| *m *= factor);
-        measures
+    let no_vvar = Vertical::VmtxVorg { vvar: 0 };
+    for (vertical, height, top) in [
+        (GLYF, (500. + 11.) * 2., (-20. + 12.) * 2.),
+        (VORG, (500. + 11.) * 2., (-20. + 12.) * 2.),
+        (no_vvar, 500. * 2., -20. * 2.),
+        (made, 1000. * 2., 0.),
+    ] {
+        let m = at(1000, vertical, 2.);
+        t.same(
+            "advance_height",
+            m.advance_height(font, 1, &[], 500),
+            height,
+        );
+        t.same("tsb", m.tsb(font, 1, &[], -20), top);
+    }
+
+    // with glyf the bearing is scaled twice; a missing origin of VORG is signed
+    for (name, units_per_em, vertical, y, expected) in [
+        ("glyf", 1000, GLYF, Some(10), (10. + (1. + 12.) * 2.) * 2.),
+        ("glyf, no yMax", 40000, GLYF, None, 40000. * 2.),
+        ("VORG", 1000, VORG, Some(880), 880. * 2.),
+        ("VORG, none", 40000, VORG, None, (40000. - 65536.) * 2.),
+        ("synthesized", 1000, made, Some(7), 800. * 2.),
+    ] {
+        let found = at(units_per_em, vertical, 2.).vertical_origin(font, 0, &[], 1, y);
+        t.same(&format!("vertical_origin: {name}"), found, expected);
+    }
+
+    t.same(
+        "GlyphMetrics: scale",
+        at(1000, made, -1.).scale(2000.),
+        plain,
+    );
+    t.same(
+        "GlyphMetrics: no units per em",
+        at(0, made, -1.).scale(16.),
+        at(0, made, 1.),
+    );
+    t.same(
+        "GlyphMetrics: linear_scale",
+        at(1000, made, -1.).linear_scale(2.),
+        plain,
+    );
+
+    let mvar = &bytes(MVAR)[..];
+    let shifted = Vertical::Synthesized {
+        mvar: 4,
+        advance: 1000. + (50. - 30.),
+        origin: 800. + 50.,
     };
-    let scale = |units_per_em, ppem| {
-        move |measures: &mut [f32]| suolluvik::scale_metrics(units_per_em, ppem, measures)
-    };
-    changes(
-        "scale_metrics: 13",
-        13,
-        &scale(2048, 16.),
-        scaled(0.0078125),
+    t.same(
+        "materialize: synthesized",
+        plain.materialize(mvar, &[8192]),
+        at(1000, shifted, 2.),
     );
-    changes(
-        "scale_metrics: 14",
-        14,
-        &scale(2000, 16.),
-        scaled(16. / 2000.),
+    t.same(
+        "materialize: no coordinates",
+        plain.materialize(mvar, &[]),
+        plain,
     );
-    changes(
-        "scale_metrics: no units per em",
-        13,
-        &scale(0, 16.),
-        UNVARIED,
+    for vertical in [GLYF, VORG] {
+        let m = at(1000, vertical, 2.);
+        t.same("materialize: by vmtx", m.materialize(mvar, &[8192]), m);
+    }
+}
+
+/// What grows: the numbers of refusals, and the version.
+fn growth(t: &mut Test) {
+    let numbers = [Absent, Short, Index, Tag, Arithmetic, Lengths, Room].map(Refusal::number);
+    t.same("the refusals' numbers", numbers, [1, 2, 3, 4, 5, 6, 7]);
+    t.same("a number without a name", Refusal::of(8), Some(Other(8)));
+    for number in 0..=u8::MAX {
+        let found = Refusal::of(number).map_or(0, Refusal::number);
+        t.same("the refusal of a number", found, number);
+    }
+    t.same(
+        "Display",
+        format!("{Room}, {}", Other(9)),
+        "refused by 7: Room, refused by 9: Other(9)".to_string(),
     );
-    changes("scale_metrics: 12", 12, &scale(2048, 16.), UNVARIED);
-    let linear =
-        |scale| move |measures: &mut [f32]| suolluvik::linear_scale_metrics(scale, measures);
-    changes("linear_scale_metrics: 13", 13, &linear(-3.), scaled(-3.));
-    changes("linear_scale_metrics: 14", 14, &linear(0.1), scaled(0.1));
-    changes("linear_scale_metrics: 12", 12, &linear(2.), UNVARIED);
+    t.same("version", suolluvik::version(), suolluvik::VERSION);
 }
 
 fn main() -> ExitCode {
     let mut t = Test::default();
-    let numbers = [Absent, Short, Index, Tag, Arithmetic, Lengths, Room].map(Refusal::number);
-    t.same("the refusals' numbers", numbers, [1, 2, 3, 4, 5, 6, 7]);
+    growth(&mut t);
     deltas(&mut t);
     axes(&mut t);
     coords(&mut t);
     measures(&mut t);
+    glyphs(&mut t);
     println!("{} passed, {} failed", t.passed, t.failed);
     ExitCode::from((t.failed != 0) as u8)
 }

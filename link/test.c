@@ -468,7 +468,7 @@ static void try_widths(void)
     check(same_float(suolluvik_advance_width(s1.at, s1.len, 4, 0, &coord, 1, 65535, 1), 65585), "advance_width",
           "S1 at 8192, the largest");
     check(same_float(suolluvik_advance_width(font.at, font.len, 0, 0, &coord, 1, 500, 2), 1000), "advance_width",
-          "no HVAR");
+          "no HVAR: unvaried");
     check(same_float(suolluvik_advance_width(far.at, far.len, 4, 0, &coord, 1, 500, 1), 500), "advance_width",
           "a refused delta");
     check(same_float(suolluvik_lsb(font.at, font.len, 4, 0, &coord, 0, -20, 2), -16), "lsb", "(-20 + 12) * 2");

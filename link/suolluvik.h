@@ -154,11 +154,11 @@ uint8_t suolluvik_materialize_glyph_metrics(const uint8_t *font, size_t font_len
                                             const int16_t *coords, size_t coords_len, float advance, float origin,
                                             float *advance_at, float *origin_at);
 
-/* The advance height, the top side bearing and the vertical origin of a glyph, by the VVAR at the offset vvar.
- * `synthesized` is the advance height, or the origin, that was made; with vmtx it is not used, and of what follows it
- * only the scale is where it was made, but for the bearing, which is then 0 times the scale. For the origin `unvaried`
- * is the top side bearing, and `y` the glyph's yMax with glyf, its origin in VORG with that; units_per_em stands for a y
- * that the font has not. */
+/* The advance height, the top side bearing and the vertical origin of a glyph, by the VVAR at the offset vvar. In the
+ * synthesized case height and origin are `synthesized` times the scale, the bearing is 0 times the scale, and nothing else
+ * is used; in the others `synthesized` is not. For the origin `unvaried` is the top side bearing, and y the glyph's yMax
+ * with glyf, its origin there with VORG; without one (has_y) units_per_em stands in its place. As in swash, with glyf it
+ * is (y + bearing) * scale, where the bearing is scaled already, and with VORG it does not vary. */
 uint8_t suolluvik_advance_height(const uint8_t *font, size_t font_len, uint8_t vertical, uint32_t vvar,
                                  float synthesized, uint16_t glyph_id, const int16_t *coords, size_t coords_len,
                                  uint16_t unvaried, float scale, float *value);

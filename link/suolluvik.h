@@ -104,7 +104,7 @@ uint8_t suolluvik_instance_coords(const uint8_t *fvar, size_t fvar_len, const ui
                                   uint32_t avar, uint16_t index, int16_t *out, size_t out_len, uint16_t *count);
 
 /* A font's measures, which are changed in place. A record is handed over with how many floats it has: thirteen, as here,
- * and any other number is refused by 7. A later library may have a longer record too. */
+ * and any other number is refused by 7. A later library may have a longer record beside this one. */
 typedef struct suolluvik_metrics {
     float ascent;
     float descent;
@@ -157,8 +157,9 @@ uint8_t suolluvik_materialize_glyph_metrics(const uint8_t *font, size_t font_len
 /* The advance height, the top side bearing and the vertical origin of a glyph, by the VVAR at the offset vvar. In the
  * synthesized case height and origin are `synthesized` times the scale, the bearing is 0 times the scale, and nothing else
  * is used; in the others `synthesized` is not. For the origin `unvaried` is the top side bearing, and y the glyph's yMax
- * with glyf, its origin there with VORG; without one (has_y) units_per_em stands in its place. As in swash, with glyf it
- * is (y + bearing) * scale, where the bearing is scaled already, and with VORG it does not vary. */
+ * with glyf, its origin there with VORG. As in swash the origin is (y + bearing) * scale with glyf, where the bearing is
+ * scaled already, and y * scale with VORG; where there is no y (has_y is false) it is units_per_em * scale, with VORG as
+ * a signed 16-bit number. */
 uint8_t suolluvik_advance_height(const uint8_t *font, size_t font_len, uint8_t vertical, uint32_t vvar,
                                  float synthesized, uint16_t glyph_id, const int16_t *coords, size_t coords_len,
                                  uint16_t unvaried, float scale, float *value);

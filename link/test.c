@@ -446,6 +446,8 @@ static void try_all_measures(void)
 /* H1 with a map of its own for bearings: at all coordinates the advances of its glyphs vary by 10, 11 and 12, and every
  * bearing by 12. */
 #define GLYPHS HVAR("00000018", "00000010", "00000033") MAP H1_ROWS("0000", "0000") "0007 0001 02"
+/* S1 with a map for bearings: at 8192 advance and bearing vary by 50. */
+#define HALFWAY HVAR("00000010", "00000000", "0000002f") STORE("000040004000", "64") "0007 0001 00"
 /* An MVAR at 4 that varies at all coordinates: hasc by 2, hdsc by 3; and one without records. */
 #define ALWAYS(records) \
     MVAR_HEADER(records, "0064") RECORDS \
@@ -461,18 +463,20 @@ static int same_float(float found, float expected)
 
 static void try_widths(void)
 {
-    struct bytes font = bytes(GLYPHS), s1 = bytes(S1), far = bytes("00000000 00010000 fffffffc");
+    struct bytes font = bytes(GLYPHS), half = bytes(HALFWAY), far = bytes("00000000 00010000 fffffffc");
     int16_t coord = 8192;
     check(same_float(suolluvik_advance_width(font.at, font.len, 4, 0, &coord, 0, 500, 2), 1020), "advance_width",
           "(500 + 10) * 2");
-    check(same_float(suolluvik_advance_width(s1.at, s1.len, 4, 0, &coord, 1, 65535, 1), 65585), "advance_width",
-          "S1 at 8192, the largest");
+    check(same_float(suolluvik_advance_width(half.at, half.len, 4, 0, &coord, 1, 65535, 1), 65585), "advance_width",
+          "at 8192, the largest");
     check(same_float(suolluvik_advance_width(font.at, font.len, 0, 0, &coord, 1, 500, 2), 1000), "advance_width",
           "no HVAR: unvaried");
     check(same_float(suolluvik_advance_width(far.at, far.len, 4, 0, &coord, 1, 500, 1), 500), "advance_width",
           "a refused delta");
     check(same_float(suolluvik_lsb(font.at, font.len, 4, 0, &coord, 0, -20, 2), -16), "lsb", "(-20 + 12) * 2");
-    check(same_float(suolluvik_lsb(s1.at, s1.len, 4, 0, &coord, 1, -32768, 0.5f), -16384), "lsb", "no map, the least");
+    check(same_float(suolluvik_lsb(half.at, half.len, 4, 0, &coord, 1, -32768, 0.5f), -16359), "lsb",
+          "at 8192, the least");
+    check(same_float(suolluvik_lsb(font.at, font.len, 0, 0, &coord, 1, -32768, 0.5f), -16384), "lsb", "no HVAR");
     check(same_float(suolluvik_scale_glyph_metrics(1000, 2000), 2), "scale_glyph_metrics", "2000 over 1000");
     check(same_float(suolluvik_scale_glyph_metrics(2048, 16), 0.0078125f), "scale_glyph_metrics", "16 over 2048");
     check(same_float(suolluvik_scale_glyph_metrics(0, NAN), 1), "scale_glyph_metrics", "no units per em");
@@ -521,7 +525,9 @@ static void try_made(const char *name, const char *hex, uint8_t vertical, uint32
 
 static void try_vertical(void)
 {
-    float advance = 123.5f, origin = 123.5f;
+    struct bytes half = bytes(HALFWAY);
+    int16_t coord = 8192;
+    float advance = 123.5f, origin = 123.5f, value = 123.5f;
     check(GLYF == 0 && VORG == 1 && MADE == 2, "suolluvik_vertical", "numbers");
 
     try_height("glyf, by VVAR", GLYF, 4, 1000, 2, 0, 1022);
@@ -531,6 +537,9 @@ static void try_vertical(void)
     try_height("vertical case 3", 3, 4, 1000, 2, 3, 0);
     try_height("vertical case 255", 255, 4, 1000, 2, 3, 0);
 
+    check(suolluvik_advance_height(half.at, half.len, GLYF, 4, 0, 0, &coord, 1, 600, 1, &value) == 0 && value == 650,
+          "advance_height", "at 8192");
+
     try_top("glyf, by VVAR", GLYF, 4, 2, 0, -16);
     try_top("VORG, by VVAR", VORG, 4, 2, 0, -16);
     try_top("glyf, no VVAR", GLYF, 0, 2, 0, -40);
@@ -538,6 +547,8 @@ static void try_vertical(void)
     try_top("synthesized, scaled by what is infinite", MADE, 4, INFINITY, 0, NAN);
     try_top("vertical case 3", 3, 4, 2, 3, 0);
     try_top("vertical case 255", 255, 4, 2, 3, 0);
+
+    check(suolluvik_tsb(half.at, half.len, VORG, 4, 0, &coord, 1, -30, 1, &value) == 0 && value == 20, "tsb", "at 8192");
 
     /* with glyf the bearing is scaled twice, as in swash */
     try_origin("glyf, yMax 0", 1000, GLYF, 0, 800, true, 0, 0, 4);
@@ -548,6 +559,10 @@ static void try_vertical(void)
     try_origin("synthesized", 1000, MADE, 4, 800, true, 7, 0, 1600);
     try_origin("vertical case 3", 1000, 3, 4, 800, true, 10, 3, 0);
     try_origin("vertical case 255", 1000, 255, 4, 800, false, 10, 3, 0);
+
+    check(suolluvik_vertical_origin(half.at, half.len, 1000, GLYF, 4, 0, 0, &coord, 1, -30, true, 10, 1, &value) == 0 &&
+              value == 30,
+          "vertical_origin", "at 8192");
 
     try_made("hasc 50 and hdsc -30", MEASURES, MADE, 4, 1, 1000, 800, 0, 1020, 850);
     try_made("the deltas are added first", ALWAYS("000b"), MADE, 4, 1, 33554436, 0, 0, 33554440, 2);

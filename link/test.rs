@@ -728,6 +728,9 @@ fn measures(t: &mut Test) {
 // bearing by 12.
 const GLYPHS: &str = "00000000 00010000 00000018 00000010 00000033 0007 0003 000102 00 \
     0001 0000000c 0001 00000010 0000 0001 0003 0000 0001 0000 0a0b0c 0007 0001 02";
+// S1 with a map for bearings: at 8192 advance and bearing vary by 50.
+const HALFWAY: &str = "00000000 00010000 00000010 00000000 0000002f 0001 0000000c 0001 00000016 \
+    0001 0001 0000 4000 4000 0001 0000 0001 0000 64 0007 0001 00";
 const GLYF: Vertical = Vertical::VmtxGlyf { vvar: 4 };
 const VORG: Vertical = Vertical::VmtxVorg { vvar: 4 };
 
@@ -765,6 +768,16 @@ fn glyphs(t: &mut Test) {
         plain.advance_width(&[], 0, &[], 500),
         1000.,
     );
+
+    let (half, m, at_half) = (&bytes(HALFWAY)[..], at(1000, GLYF, 1.), &[8192]);
+    let found = [
+        m.advance_width(half, 0, at_half, 500),
+        m.lsb(half, 0, at_half, -20),
+        m.advance_height(half, 0, at_half, 600),
+        m.tsb(half, 0, at_half, -30),
+        m.vertical_origin(half, 0, at_half, -30, Some(10)),
+    ];
+    t.same("at 8192", found, [550., 30., 650., 20., 10. + 20.]);
 
     let no_vvar = Vertical::VmtxVorg { vvar: 0 };
     for (vertical, height, top) in [
@@ -837,10 +850,11 @@ fn growth(t: &mut Test) {
     let numbers = [Absent, Short, Index, Tag, Arithmetic, Lengths, Room].map(Refusal::number);
     t.same("the refusals' numbers", numbers, [1, 2, 3, 4, 5, 6, 7]);
     t.same("a number without a name", Refusal::of(8), Some(Other(8)));
-    for number in 0..=u8::MAX {
-        let found = Refusal::of(number).map_or(0, Refusal::number);
-        t.same("the refusal of a number", found, number);
-    }
+    let all: Vec<u8> = (0..=u8::MAX).collect();
+    let found = all
+        .iter()
+        .map(|number| Refusal::of(*number).map_or(0, Refusal::number));
+    t.same("the refusal of each number", found.collect(), all.clone());
     t.same(
         "Display",
         format!("{Room}, {}", Other(9)),

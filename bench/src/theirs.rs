@@ -2,12 +2,12 @@
 //! functions' names say which.
 
 #[macro_use]
-mod swash;
+mod private;
 
-use swash::internal::{shown, var};
-use swash::setting::Setting;
-use swash::variation::{Instances, Variations};
-use swash::FontRef;
+use private::internal::{shown, var};
+use private::setting::Setting;
+use private::variation::{Instances, Variations};
+use private::FontRef;
 
 /// The delta of a glyph's advance.
 #[cfg_attr(checked, export_name = "checked_advance")]

@@ -3,9 +3,9 @@
 mod axes;
 mod metrics;
 mod numbers;
+mod private;
 mod random;
 mod store;
-mod swash;
 mod tags;
 mod text;
 

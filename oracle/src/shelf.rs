@@ -11,12 +11,12 @@ mod damage;
 mod font;
 #[path = "shelf/judge.rs"]
 mod judge;
+mod private;
 #[allow(dead_code)]
 mod random;
 // the build puts link/suolluvik.rs beside this file
 #[allow(dead_code)]
 mod suolluvik;
-mod swash;
 mod tags;
 #[allow(dead_code)]
 mod text;

@@ -1,6 +1,6 @@
 //! The tags of measures, as swash has them.
 
-use crate::swash::internal::var::mvar_tags;
+use crate::private::internal::var::mvar_tags;
 
 /// All of swash's, in its order.
 pub const TAGS: [u32; 28] = [

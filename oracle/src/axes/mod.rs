@@ -6,12 +6,12 @@ pub mod cases;
 pub mod rules;
 
 use crate::numbers::rules::to_f32;
-use crate::swash::internal::fixed::Fixed;
-use crate::swash::internal::var::{adjust_axis, Fvar, VarAxis};
-use crate::swash::internal::{Array, Bytes};
-use crate::swash::setting::Setting;
-use crate::swash::variation::{Instances, Variations};
-use crate::swash::FontRef;
+use crate::private::internal::fixed::Fixed;
+use crate::private::internal::var::{adjust_axis, Fvar, VarAxis};
+use crate::private::internal::{Array, Bytes};
+use crate::private::setting::Setting;
+use crate::private::variation::{Instances, Variations};
+use crate::private::FontRef;
 use crate::text;
 use crate::{Expected, Rust};
 

@@ -4,10 +4,10 @@
 pub mod cases;
 mod rules;
 
+use crate::private::internal::{set_unvaried, Unvaried};
+use crate::private::metrics::{GlyphMetrics, Metrics, MetricsProxy, VerticalNumbers};
+use crate::private::FontRef;
 use crate::store::rules::Map;
-use crate::swash::internal::{set_unvaried, Unvaried};
-use crate::swash::metrics::{GlyphMetrics, Metrics, MetricsProxy, VerticalNumbers};
-use crate::swash::FontRef;
 use crate::text;
 use crate::{Expected, Rust};
 use rules::{Measures, Place, Vertical};

@@ -3,7 +3,7 @@
 pub mod cases;
 pub mod rules;
 
-use crate::swash::internal::fixed::{muldiv, Fixed};
+use crate::private::internal::fixed::{muldiv, Fixed};
 use crate::text;
 use crate::{Expected, Rust};
 

@@ -4,15 +4,15 @@ use super::font::{u16_at, u32_at, Font};
 use super::judge::{asked, Function, Judge, Rust, CHANGED};
 use crate::axes::rules::{self as axis_rules, Answer, NO_AVAR};
 use crate::numbers::rules::to_f32;
+use crate::private::internal::fixed::Fixed;
+use crate::private::internal::var::{self, Fvar, VarAxis};
+use crate::private::internal::{raw_tag, shown};
+use crate::private::setting::Setting;
+use crate::private::variation::{Instances, Variation, Variations};
+use crate::private::FontRef;
 use crate::random::Random;
 use crate::store::rules::{self as store_rules, Map};
 use crate::suolluvik::{self, Refusal};
-use crate::swash::internal::fixed::Fixed;
-use crate::swash::internal::var::{self, Fvar, VarAxis};
-use crate::swash::internal::{raw_tag, shown};
-use crate::swash::setting::Setting;
-use crate::swash::variation::{Instances, Variation, Variations};
-use crate::swash::FontRef;
 use crate::tags::TAGS;
 
 /// A tag that no font has.

@@ -4,9 +4,9 @@
 use super::ask::settings;
 use super::font::{directories, Font};
 use super::{seed_of, Files, SEED};
+use crate::private::internal::var::Fvar;
 use crate::random::Random;
 use crate::suolluvik;
-use crate::swash::internal::var::Fvar;
 use crate::text::list_text;
 use std::fs;
 use std::io::{self, BufWriter, Write};

@@ -8,8 +8,8 @@ pub mod twins;
 
 use crate::axes::rules::Answer;
 use crate::numbers::rules::to_f32;
-use crate::swash::internal::fixed::Fixed;
-use crate::swash::internal::{shown, var};
+use crate::private::internal::fixed::Fixed;
+use crate::private::internal::{shown, var};
 use crate::tags::TAGS;
 use crate::text;
 use crate::{Expected, Rust};

@@ -1,4 +1,5 @@
-//! Stands in for swash's own `lib.rs` and for the files that its `variation.rs` and `metrics.rs` lean
+//! Five of swash's files among shims of ours, so that what is private in them can be asked. This one
+//! stands in for swash's own `lib.rs` and for the files that its `variation.rs` and `metrics.rs` lean
 //! on: a font that is one bare fvar, settings, and names, of which there are none here. The build puts
 //! swash's `variation.rs` beside this file, unchanged, and `metrics.rs`, unchanged, with `hook.rs`
 //! behind it.

@@ -19,45 +19,49 @@ thread_local! {
 
 /// What the tables below answer from now on.
 pub fn set_unvaried(unvaried: Unvaried) {
-    UNVARIED.set(unvaried);
+    UNVARIED.with(|numbers| numbers.set(unvaried));
+}
+
+fn unvaried() -> Unvaried {
+    UNVARIED.with(Cell::get)
 }
 
 pub mod xmtx {
     use super::super::{raw_tag, RawTag};
-    use super::UNVARIED;
+    use super::unvaried;
 
     pub const HMTX: RawTag = raw_tag(b"hmtx");
     pub const VMTX: RawTag = raw_tag(b"vmtx");
 
     pub fn advance(_data: &[u8], _xmtx: u32, _count: u16, _glyph_id: u16) -> u16 {
-        UNVARIED.get().advance
+        unvaried().advance
     }
 
     pub fn sb(_data: &[u8], _xmtx: u32, _count: u16, _glyph_id: u16) -> i16 {
-        UNVARIED.get().bearing
+        unvaried().bearing
     }
 }
 
 pub mod vorg {
     use super::super::{raw_tag, RawTag};
-    use super::UNVARIED;
+    use super::unvaried;
 
     pub const VORG: RawTag = raw_tag(b"VORG");
 
     pub fn origin(_data: &[u8], _vorg: u32, _glyph_id: u16) -> Option<i16> {
-        UNVARIED.get().origin
+        unvaried().origin
     }
 }
 
 pub mod glyf {
     use super::super::{raw_tag, RawTag};
-    use super::UNVARIED;
+    use super::unvaried;
 
     pub const GLYF: RawTag = raw_tag(b"glyf");
     pub const LOCA: RawTag = raw_tag(b"loca");
 
     pub fn ymax(_data: &[u8], _fmt: u8, _loca: u32, _glyf: u32, _glyph_id: u16) -> Option<i16> {
-        UNVARIED.get().y_max
+        unvaried().y_max
     }
 }
 

@@ -36,13 +36,15 @@ mod store {
 
 use ask::Asker;
 use damage::Fields;
-use font::Font;
+use font::{Font, Kind};
 use judge::{Judge, Tally, FUNCTIONS};
 use random::Random;
 use std::collections::BTreeMap;
+use std::ffi::OsString;
 use std::fmt::Display;
 use std::fs;
 use std::io::{self, Read};
+use std::os::unix::ffi::OsStrExt;
 use std::panic::catch_unwind;
 use std::path::{Path, PathBuf};
 use std::process::ExitCode;
@@ -59,21 +61,28 @@ const LARGEST: u64 = 32 << 20;
 /// Of a font that is not damaged the random coordinates are always the same.
 const SEED: u64 = 20261115;
 
-/// The files below a folder that are fonts, sorted, and those that are too large.
+/// A name as it is, or, where it has what could break a line or is no UTF-8, quoted and escaped.
+fn shown(path: &Path) -> String {
+    let quoted = format!("{path:?}");
+    match path.to_str() {
+        Some(name) if quoted == format!("\"{name}\"") => name.to_string(),
+        _ => quoted,
+    }
+}
+
+/// The files below a folder that are fonts, sorted, and what is left out, with the reason.
+#[derive(Default)]
 struct Files {
     fonts: Vec<PathBuf>,
-    large: Vec<PathBuf>,
+    left_out: Vec<(PathBuf, String)>,
 }
 
 impl Files {
     fn below(folder: &Path) -> io::Result<Files> {
-        let mut files = Files {
-            fonts: vec![],
-            large: vec![],
-        };
+        let mut files = Files::default();
         files.add(folder)?;
         files.fonts.sort();
-        files.large.sort();
+        files.left_out.sort();
         Ok(files)
     }
 
@@ -81,24 +90,39 @@ impl Files {
         for entry in fs::read_dir(folder)? {
             let entry = entry?;
             let path = entry.path();
-            // a link to a folder may lead back
-            if entry.file_type()?.is_dir() {
-                self.add(&path)?;
-            } else if path.is_file() {
-                let mut start = vec![];
-                fs::File::open(&path)?.take(4).read_to_end(&mut start)?;
-                if font::is_font(&start) {
-                    let large = fs::metadata(&path)?.len() > LARGEST;
-                    let list = if large {
-                        &mut self.large
-                    } else {
-                        &mut self.fonts
-                    };
-                    list.push(path);
-                }
+            // one that can't be read does not end the rest
+            let done = if entry.file_type()?.is_dir() {
+                self.add(&path)
+            } else {
+                self.add_file(&path)
+            };
+            if let Err(why) = done {
+                self.leave_out(&path, &format!("can't be read, {why}"));
             }
         }
         Ok(())
+    }
+
+    fn add_file(&mut self, path: &Path) -> io::Result<()> {
+        let file = fs::metadata(path)?;
+        if file.is_dir() {
+            // it may lead back
+            self.leave_out(path, "a link to a folder");
+        } else if file.is_file() {
+            let mut start = vec![];
+            fs::File::open(path)?.take(4).read_to_end(&mut start)?;
+            match Kind::of(&start) {
+                Kind::Font if file.len() > LARGEST => self.leave_out(path, "larger than 32 MiB"),
+                Kind::Font => self.fonts.push(path.to_path_buf()),
+                Kind::Woff => self.leave_out(path, "WOFF"),
+                Kind::Other => (),
+            }
+        }
+        Ok(())
+    }
+
+    fn leave_out(&mut self, path: &Path, why: &str) {
+        self.left_out.push((path.to_path_buf(), why.to_string()));
     }
 }
 
@@ -142,29 +166,33 @@ struct Shelf {
 }
 
 /// A seed for one face and round, whatever other fonts there are.
-fn seed_of(seed: u64, name: &str, face: usize, round: u64) -> u64 {
+fn seed_of(seed: u64, path: &Path, face: usize, round: u64) -> u64 {
     let start = Random::new(seed.wrapping_add(round << 20)).bits();
-    let mix = |hash: u64, byte: u8| (hash ^ byte as u64).wrapping_mul(0x100_0000_01b3);
-    name.bytes().fold(start, mix).wrapping_add(face as u64)
+    let mix = |hash: u64, byte: &u8| (hash ^ *byte as u64).wrapping_mul(0x100_0000_01b3);
+    let name = path.file_name().map_or(&b""[..], OsStrExt::as_bytes);
+    name.iter().fold(start, mix).wrapping_add(face as u64)
+}
+
+/// The folder of a file, and its title, as they are printed: seen from the folder that is asked for.
+fn names(folder: &Path, path: &Path) -> (String, String) {
+    let below = path.strip_prefix(folder).unwrap_or(path);
+    let row = below.parent().map_or(String::new(), shown);
+    let row = if row.is_empty() { ".".to_string() } else { row };
+    (row, shown(below))
 }
 
 impl Shelf {
     /// Compares each face of a file, as it is or so many times damaged.
     fn file(&mut self, folder: &Path, path: &Path, damage: Option<(u64, u64)>) -> io::Result<()> {
         let mut data = fs::read(path)?;
-        let below = path.strip_prefix(folder).unwrap_or(path);
-        let row = below
-            .parent()
-            .map_or(String::new(), |p| p.display().to_string());
-        let name = path
-            .file_name()
-            .map_or(String::new(), |n| n.to_string_lossy().to_string());
-        let directories = font::directories(&data);
-        let faces = directories.len();
-        for (face, directory) in directories.into_iter().enumerate() {
-            let title = match faces {
-                1 => below.display().to_string(),
-                _ => format!("{}, face {face}", below.display()),
+        let (row, file) = names(folder, path);
+        let faces = font::faces(&data);
+        let single = faces.len() == 1;
+        for (face, directory) in faces {
+            let title = if single {
+                file.clone()
+            } else {
+                format!("{file}, face {face}")
             };
             let row = self.rows.entry(row.clone()).or_default();
             row.fonts += 1;
@@ -178,7 +206,7 @@ impl Shelf {
                     let mut asker = Asker {
                         font: Font::at(&data, directory),
                         judge: &mut self.judge,
-                        random: Random::new(seed_of(SEED, &name, face, 0)),
+                        random: Random::new(seed_of(SEED, path, face, 0)),
                         brief: false,
                     };
                     asker.all();
@@ -187,7 +215,7 @@ impl Shelf {
                     let fields = Fields::of(&data, directory);
                     let rounds = if fields.is_empty() { 0 } else { rounds };
                     for round in 0..rounds {
-                        let mut random = Random::new(seed_of(seed, &name, face, round));
+                        let mut random = Random::new(seed_of(seed, path, face, round));
                         let done = fields.damage(&mut data, &mut random);
                         self.judge.input =
                             format!("{title}, seed {seed}, round {round}: {}", done.text());
@@ -212,7 +240,7 @@ impl Shelf {
 
     /// Prints both tables, and answers whether there is no difference.
     fn table(&self) -> bool {
-        let names = self.rows.keys().map(String::len);
+        let names = self.rows.keys().map(|name| name.chars().count());
         let longest = names.chain(FUNCTIONS.map(str::len)).max().unwrap_or(0);
         let columns = [
             "fonts",
@@ -227,7 +255,6 @@ impl Shelf {
         print_row(longest, "folder", columns);
         let mut total = Row::default();
         for (name, row) in &self.rows {
-            let name = if name.is_empty() { "." } else { name };
             print_row(longest, name, row.columns());
             total.fonts += row.fonts;
             total.without_fvar += row.without_fvar;
@@ -255,32 +282,33 @@ fn compare(folder: &Path, damage: Option<(u64, u64)>) -> io::Result<bool> {
     };
     let count = files.fonts.len();
     for (k, path) in files.fonts.iter().enumerate() {
-        let below = path.strip_prefix(folder).unwrap_or(path);
-        let place = format!("file {} of {count}, {}", k + 1, below.display());
+        let place = format!("file {} of {count}, {}", k + 1, names(folder, path).1);
         eprintln!("shelf: {place}");
         shelf.judge.place = place;
         shelf.file(folder, path, damage)?;
     }
-    for path in &files.large {
-        println!("left out, larger than 32 MiB: {}", path.display());
+    for (path, why) in &files.left_out {
+        println!("left out, {why}: {}", names(folder, path).1);
     }
     for title in &shelf.without_fvar {
         println!("without fvar: {title}");
     }
     if count == 0 {
-        return Err(io::Error::other("no font below it"));
+        return Err(io::Error::new(io::ErrorKind::Other, "no font below it"));
     }
     Ok(shelf.table())
 }
 
-fn run(words: &[&str]) -> Option<io::Result<bool>> {
-    match *words {
-        ["compare", folder] => Some(compare(Path::new(folder), None)),
-        ["damage", folder, rounds, seed] => {
-            let damage = (rounds.parse().ok()?, seed.parse().ok()?);
+fn run(words: &[OsString]) -> Option<io::Result<bool>> {
+    let number = |word: &OsString| word.to_str()?.parse().ok();
+    let (word, rest) = words.split_first()?;
+    match (word.to_str()?, rest) {
+        ("compare", [folder]) => Some(compare(Path::new(folder), None)),
+        ("damage", [folder, rounds, seed]) => {
+            let damage = (number(rounds)?, number(seed)?);
             Some(compare(Path::new(folder), Some(damage)))
         }
-        ["coords", folder] => Some(coords::write(Path::new(folder)).map(|()| true)),
+        ("coords", [folder]) => Some(coords::write(Path::new(folder)).map(|()| true)),
         _ => None,
     }
 }
@@ -292,13 +320,12 @@ fn main() -> ExitCode {
             eprintln!("shelf: a fault of its own: {fault}");
         }
     }));
-    let words: Vec<String> = std::env::args().skip(1).collect();
-    let words: Vec<&str> = words.iter().map(String::as_str).collect();
+    let words: Vec<OsString> = std::env::args_os().skip(1).collect();
     match catch_unwind(|| run(&words)) {
         Ok(Some(Ok(true))) => ExitCode::SUCCESS,
         Ok(Some(Ok(false))) => ExitCode::FAILURE,
         Ok(Some(Err(why))) => {
-            eprintln!("shelf: {}: {why}", words[1]);
+            eprintln!("shelf: {}: {why}", shown(Path::new(&words[1])));
             ExitCode::from(2)
         }
         Ok(None) => {

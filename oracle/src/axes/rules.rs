@@ -179,8 +179,9 @@ fn pairs(avar: Avar, axis: usize) -> Option<Vec<(i128, i128)>> {
 /// or none exists, the value stays; otherwise, with the pair before it, to0 plus (to1 - to0)·(v - from0)
 /// over (from1 - from0), rounded as muldiv.
 fn mapped(pairs: &[(i128, i128)], value: i128) -> i128 {
-    let Some(k) = pairs.iter().position(|(from, _)| *from >= value) else {
-        return value;
+    let k = match pairs.iter().position(|(from, _)| *from >= value) {
+        Some(k) => k,
+        None => return value,
     };
     let (from1, to1) = pairs[k];
     if from1 == value {

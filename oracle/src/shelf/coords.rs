@@ -1,36 +1,38 @@
 //! Coordinates by the library, with the font's own avar: written out for `oracle/avar`, which has
-//! fontTools' beside them.
+//! fontTools' and FreeType's beside them.
 
 use super::ask::settings;
-use super::font::{directories, Font};
-use super::{seed_of, Files, SEED};
-use crate::private::internal::var::Fvar;
+use super::font::{faces, Font};
+use super::{names, seed_of, Files, SEED};
+use crate::private::internal::var::{Fvar, VarAxis};
 use crate::random::Random;
 use crate::suolluvik;
-use crate::text::list_text;
+use crate::text::{bytes_text, list_text};
 use std::fs;
 use std::io::{self, BufWriter, Write};
+use std::os::unix::ffi::OsStrExt;
 use std::path::Path;
 
-/// The steps of the grid that is laid over each axis.
-const STEPS: u64 = 500;
+/// The steps of the grid that is laid over the axes, each of which is this much ahead of the one before.
+const STEPS: u64 = 5000;
+const AHEAD: u64 = 1733;
 
-/// For each variable face a line `font`, its file and face; then the settings of all axes, as tags
-/// with the bits of floats, or the instance's index, with the coordinates; a tab between two words.
+/// For each variable face a line `font`: its file's bytes in hex, its number, and the folder and the
+/// file as they are printed. Then its lines: `settings`, tags with the bits of floats, or `instance`
+/// and the index; and the coordinates. A tab stands between two words.
 pub fn write(folder: &Path) -> io::Result<()> {
     let mut out = BufWriter::new(io::stdout().lock());
     for path in Files::below(folder)?.fonts {
         let data = fs::read(&path)?;
-        let name = path
-            .file_name()
-            .map_or(String::new(), |n| n.to_string_lossy().to_string());
-        for (face, directory) in directories(&data).into_iter().enumerate() {
+        let file = bytes_text(path.as_os_str().as_bytes().iter().copied());
+        let (row, title) = names(folder, &path);
+        for (face, directory) in faces(&data) {
             let font = Font::at(&data, directory);
             if !font.has_fvar {
                 continue;
             }
-            writeln!(out, "font\t{}\t{face}", path.display())?;
-            let mut random = Random::new(seed_of(SEED, &name, face, 0));
+            writeln!(out, "font\t{file}\t{face}\t{row}\t{title}")?;
+            let mut random = Random::new(seed_of(SEED, &path, face, 0));
             face_lines(&mut out, font, &mut random)?;
         }
     }
@@ -50,18 +52,17 @@ fn face_lines(out: &mut impl Write, font: Font, random: &mut Random) -> io::Resu
         .map_while(|i| fvar.get_axis(i))
         .collect();
     let mut all = settings(&axes, random, false);
-    for axis in &axes {
-        let [min, max] = [axis.min.to_f32(), axis.max.to_f32()];
-        let step = |k: u64| min + (max - min) * (k as f32 / STEPS as f32);
-        all.extend((0..=STEPS).map(|k| vec![(axis.tag, step(k))]));
+    for k in 0..=STEPS {
+        let at = |i: usize| (k + i as u64 * AHEAD) % (STEPS + 1);
+        let step = |(i, axis): (usize, &VarAxis)| {
+            let [min, max] = [axis.min.to_f32(), axis.max.to_f32()];
+            (axis.tag, min + (max - min) * (at(i) as f32 / STEPS as f32))
+        };
+        all.push(axes.iter().enumerate().map(step).collect());
     }
     let mut list = vec![0; axes.len()];
     for pairs in all {
         let (tags, values): (Vec<u32>, Vec<f32>) = pairs.into_iter().unzip();
-        // fontTools is asked for numbers only
-        if values.iter().any(|value| !value.is_finite()) {
-            continue;
-        }
         let answer = suolluvik::normalized_coords(
             font.fvar, font.data, font.avar, &tags, &values, &mut list,
         );

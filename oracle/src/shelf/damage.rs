@@ -14,11 +14,10 @@ pub struct Damage {
 
 impl Damage {
     fn set(&mut self, data: &mut [u8], p: usize, bytes: &[u8]) {
-        let Some(there) = data.get_mut(p..p + bytes.len()) else {
-            return;
-        };
-        self.changes.push((p, there.to_vec(), bytes.to_vec()));
-        there.copy_from_slice(bytes);
+        if let Some(there) = data.get_mut(p..p + bytes.len()) {
+            self.changes.push((p, there.to_vec(), bytes.to_vec()));
+            there.copy_from_slice(bytes);
+        }
     }
 
     pub fn undo(&self, data: &mut [u8]) {
@@ -83,8 +82,9 @@ impl Fields {
             records: vec![],
         };
         for tag in [FVAR, HVAR, VVAR, MVAR, MAXP] {
-            let Some(p) = record(data, directory, tag) else {
-                continue;
+            let p = match record(data, directory, tag) {
+                Some(p) => p,
+                None => continue,
             };
             all.directory.extend([p + 8, p + 12]);
             let start = u32_at(data, p + 8).unwrap_or(0) as usize;

@@ -15,6 +15,8 @@ const FONTS: [u32; 3] = [
     u32::from_be_bytes(*b"true"),
 ];
 
+const WOFFS: [u32; 2] = [u32::from_be_bytes(*b"wOFF"), u32::from_be_bytes(*b"wOF2")];
+
 pub fn u16_at(data: &[u8], p: usize) -> Option<u16> {
     let bytes = data.get(p..p.checked_add(2)?)?;
     bytes.try_into().ok().map(u16::from_be_bytes)
@@ -25,22 +27,36 @@ pub fn u32_at(data: &[u8], p: usize) -> Option<u32> {
     bytes.try_into().ok().map(u32::from_be_bytes)
 }
 
-/// Whether a file that starts so may be a font or a collection.
-pub fn is_font(data: &[u8]) -> bool {
-    u32_at(data, 0).is_some_and(|mark| mark == COLLECTION || FONTS.contains(&mark))
+/// What a file is by its first bytes.
+#[derive(Clone, Copy, PartialEq)]
+pub enum Kind {
+    /// a font or a collection, or what starts so
+    Font,
+    /// one that would have to be unpacked
+    Woff,
+    Other,
 }
 
-/// Where the directories are: one, or one for each face of a collection.
-pub fn directories(data: &[u8]) -> Vec<usize> {
+impl Kind {
+    pub fn of(start: &[u8]) -> Self {
+        match u32_at(start, 0) {
+            Some(mark) if mark == COLLECTION || FONTS.contains(&mark) => Kind::Font,
+            Some(mark) if WOFFS.contains(&mark) => Kind::Woff,
+            _ => Kind::Other,
+        }
+    }
+}
+
+/// The faces by their numbers, with the place of each one's directory: one, or those of a collection.
+pub fn faces(data: &[u8]) -> Vec<(usize, usize)> {
     if u32_at(data, 0) != Some(COLLECTION) {
-        return vec![0];
+        return vec![(0, 0)];
     }
     let count = u32_at(data, 8).unwrap_or(0) as usize;
-    let faces = (0..count).map_while(|i| u32_at(data, 12 + 4 * i));
-    faces
-        .map(|p| p as usize)
-        .filter(|p| u32_at(data, *p).is_some_and(|mark| FONTS.contains(&mark)))
-        .collect()
+    let places = (0..count).map_while(|i| u32_at(data, 12 + 4 * i));
+    let is_face = |p: usize| matches!(u32_at(data, p), Some(mark) if FONTS.contains(&mark));
+    let faces = places.map(|p| p as usize).enumerate();
+    faces.filter(|(_, p)| is_face(*p)).collect()
 }
 
 /// Where a table's record is in the directory at `base`.

@@ -24,14 +24,14 @@ thread_local! {
 
 /// What comes of asking the Rust.
 pub fn asked<T>(question: impl FnOnce() -> Rust<T>) -> Rust<T> {
-    ASKED.set(true);
+    ASKED.with(|asked| asked.set(true));
     let done = catch_unwind(AssertUnwindSafe(question)).unwrap_or(Rust::Stops);
-    ASKED.set(false);
+    ASKED.with(|asked| asked.set(false));
     done
 }
 
 pub fn is_asked() -> bool {
-    ASKED.get()
+    ASKED.with(Cell::get)
 }
 
 /// The functions of the library that are compared.

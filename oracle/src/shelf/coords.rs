@@ -14,7 +14,7 @@ use std::os::unix::ffi::OsStrExt;
 use std::path::Path;
 
 /// The steps of the grid that is laid over the axes, each of which is this much ahead of the one before.
-const STEPS: u64 = 5000;
+const STEPS: u64 = 6400;
 const AHEAD: u64 = 1733;
 
 /// For each variable face a line `font`: its file's bytes in hex, its number, and the folder and the

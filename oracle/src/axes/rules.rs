@@ -154,7 +154,7 @@ pub const NO_AVAR: Avar = Avar {
 /// Axis count at 6; from 8 on, per axis a count and pairs from, to in 2.14: an axis' pairs, in 16.16.
 /// None with an offset of 0, for an axis at or past the count, or by a read past the end before its
 /// map's end.
-fn pairs(avar: Avar, axis: usize) -> Option<Vec<(i128, i128)>> {
+pub fn pairs(avar: Avar, axis: usize) -> Option<Vec<(i128, i128)>> {
     // everything is 16 bits wide: number k stands at 2·k
     let number = |k: usize| unsigned(avar.font, avar.offset + 2 * k, 2).ok();
     if avar.offset == 0 || axis as i128 >= number(3)? {
@@ -205,8 +205,12 @@ const HALF: i128 = 1 << 31;
 /// (default - min). Above: (value - default) over (max - default). Equal: 0. Hold to -65536..65536,
 /// apply avar, go to 2.14.
 pub fn normalise(axis: &Axis, avar: Avar, value: i128) -> Answer<i64> {
-    let held = from_default(axis, value)?.clamp(-65536, 65536);
-    Ok(to_f2dot14(adjust(avar, axis.index, held)))
+    Ok(to_f2dot14(adjust(avar, axis.index, held(axis, value)?)))
+}
+
+/// What avar is applied to.
+pub fn held(axis: &Axis, value: i128) -> Answer<i128> {
+    Ok(from_default(axis, value)?.clamp(-65536, 65536))
 }
 
 fn from_default(axis: &Axis, value: i128) -> Answer<i128> {

@@ -1,0 +1,167 @@
+//! Holds the library, linked, and the model to what the whole swash answers: `oracle/whole` writes its lines,
+//! this reads them. README.md beside this folder says how to use it. It must build with rustc 1.63, the one that
+//! Debian 12 has a library for x86-64 for on other processors.
+
+#[path = "whole/coords.rs"]
+mod coords;
+#[path = "whole/deciding.rs"]
+mod deciding;
+#[path = "whole/font.rs"]
+mod font;
+#[path = "whole/judge.rs"]
+mod judge;
+#[path = "whole/measures.rs"]
+mod measures;
+#[path = "whole/tables.rs"]
+mod tables;
+
+#[allow(dead_code)]
+#[path = "../../link/suolluvik.rs"]
+mod suolluvik;
+#[allow(dead_code)]
+mod text;
+
+#[allow(dead_code)]
+mod numbers {
+    pub mod rules;
+}
+#[allow(dead_code)]
+mod axes {
+    pub mod rules;
+}
+#[allow(dead_code)]
+mod store {
+    pub mod rules;
+}
+#[allow(dead_code)]
+mod metrics {
+    pub mod rules;
+}
+
+use font::{Font, Phase};
+use judge::Judge;
+use measures::Metrics;
+use std::io::{self, BufRead};
+use std::process::ExitCode;
+use tables::Tables;
+
+const USAGE: &str = "\
+judge fonts      reads the lines of 'whole fonts', and prints tables
+judge made       reads the lines of 'whole made', and prints each answer
+";
+
+/// What goes wrong but for a difference: the line, and why.
+type Wrong<T> = Result<T, String>;
+
+struct Reader {
+    font: Font,
+    metrics: Metrics,
+    judge: Judge,
+    tables: Tables,
+    ended: bool,
+}
+
+impl Reader {
+    /// Before another font, or another state of it, what was counted goes to its row.
+    fn settle(&mut self) {
+        self.tables.add(&self.font, self.judge.take());
+    }
+
+    fn line(&mut self, line: &str) -> Wrong<()> {
+        let words: Vec<&str> = line.split('\t').collect();
+        match (words[0], &words[1..]) {
+            ("left out", [why, path]) => println!("left out, {}: {}", why, path),
+            ("lists left out", [count]) => println!("{}: {} left out at its glyphs", self.font.title(), count),
+            ("file", [path, below]) => {
+                self.settle();
+                self.font = Font::read(path, below)?;
+            }
+            ("bytes", [bytes, what, avar]) => {
+                self.settle();
+                self.font = Font::made(bytes, what, avar)?;
+            }
+            ("face", numbers) => {
+                self.settle();
+                self.font.face(numbers)?;
+                self.tables.face(&self.font);
+            }
+            ("avar", [bytes]) => {
+                self.settle();
+                self.font.put_avar(bytes)?;
+            }
+            ("set", changes) => {
+                self.settle();
+                self.font.set(changes)?;
+            }
+            ("end", []) => {
+                self.settle();
+                self.ended = true;
+            }
+            (kind, words) => {
+                self.judge.input = self.font.title();
+                let known = coords::line(&mut self.judge, &self.font, kind, words)
+                    .or_else(|| self.metrics.line(&mut self.judge, &self.font, kind, words));
+                known.ok_or_else(|| "no such line".to_string())?;
+            }
+        }
+        Ok(())
+    }
+}
+
+fn read(made: bool) -> Wrong<bool> {
+    let mut reader = Reader {
+        font: Font::default(),
+        metrics: Metrics::default(),
+        judge: Judge::new(made),
+        tables: Tables::default(),
+        ended: false,
+    };
+    let mut input = io::stdin().lock();
+    let mut line = String::new();
+    loop {
+        line.clear();
+        let read = input.read_line(&mut line).map_err(|why| why.to_string())?;
+        if read == 0 {
+            break;
+        }
+        let text = line.trim_end_matches('\n');
+        reader
+            .line(text)
+            .map_err(|why| format!("{}: {}", text.chars().take(200).collect::<String>(), why))?;
+    }
+    if !reader.ended {
+        return Err("swash's side ended before its last line".to_string());
+    }
+    if !made {
+        reader.tables.print();
+    }
+    Ok(reader.tables.differences() == 0)
+}
+
+fn main() -> ExitCode {
+    let words: Vec<String> = std::env::args().skip(1).collect();
+    let words: Vec<&str> = words.iter().map(String::as_str).collect();
+    let made = match words[..] {
+        ["fonts"] => false,
+        ["made"] => true,
+        _ => {
+            eprint!("{}", USAGE);
+            return ExitCode::from(2);
+        }
+    };
+    match read(made) {
+        Ok(true) => ExitCode::SUCCESS,
+        Ok(false) => ExitCode::FAILURE,
+        Err(why) => {
+            eprintln!("judge: {}", why);
+            ExitCode::from(2)
+        }
+    }
+}
+
+/// For the tables: each state of a font is counted apart.
+const PHASES: [(Phase, &str); 3] = [
+    (Phase::AsItIs, "The fonts as they are"),
+    (Phase::Filled, "With a map of bearings, the advances' one, and MVAR's indices as swash takes them"),
+    (Phase::Damaged, "With avar damaged"),
+];

@@ -1,0 +1,147 @@
+//! The font that is asked about, as the lines give it.
+
+use crate::axes::rules::Avar;
+use crate::text::bytes;
+use crate::Wrong;
+use std::fs;
+use std::path::Path;
+
+#[derive(Clone, Copy, PartialEq, Eq, PartialOrd, Ord)]
+pub enum Phase {
+    AsItIs,
+    Filled,
+    Damaged,
+}
+
+impl Default for Phase {
+    fn default() -> Self {
+        Phase::AsItIs
+    }
+}
+
+#[derive(Default)]
+pub struct Font {
+    pub data: Vec<u8>,
+    pub phase: Phase,
+    /// the folder that it is in
+    pub row: String,
+    name: String,
+    /// what was done to it
+    done: String,
+    face: usize,
+    /// how many bytes it has without what was put behind them
+    whole: usize,
+    /// start and length
+    fvar: (usize, usize),
+    /// starts, 0 where there is none
+    pub avar: u32,
+    pub hvar: u32,
+    pub vvar: u32,
+    pub mvar: u32,
+}
+
+fn number(word: &str) -> Wrong<usize> {
+    word.parse().map_err(|_| format!("{} is no number", word))
+}
+
+fn hex(word: &str) -> Wrong<Vec<u8>> {
+    bytes(word).ok_or_else(|| "these are no bytes".to_string())
+}
+
+impl Font {
+    pub fn read(path: &str, below: &str) -> Wrong<Font> {
+        let data = fs::read(path).map_err(|why| why.to_string())?;
+        let row = Path::new(below).parent().map_or(String::new(), |p| p.display().to_string());
+        Ok(Font {
+            whole: data.len(),
+            data,
+            row,
+            name: below.to_string(),
+            ..Font::default()
+        })
+    }
+
+    pub fn made(data: &str, what: &str, avar: &str) -> Wrong<Font> {
+        let data = hex(data)?;
+        Ok(Font {
+            whole: data.len(),
+            data,
+            row: "made".to_string(),
+            name: format!("{}, avar {}", what, avar),
+            ..Font::default()
+        })
+    }
+
+    /// Of a face: its index, start and length of fvar, then the starts of the others.
+    pub fn face(&mut self, numbers: &[&str]) -> Wrong<()> {
+        let numbers: Wrong<Vec<usize>> = numbers.iter().map(|word| number(word)).collect();
+        let numbers = numbers?;
+        if numbers.len() != 7 || numbers[1] + numbers[2] > self.whole {
+            return Err("these are no places of tables".to_string());
+        }
+        self.data.truncate(self.whole);
+        self.face = numbers[0];
+        self.fvar = (numbers[1], numbers[2]);
+        self.avar = numbers[3] as u32;
+        self.hvar = numbers[4] as u32;
+        self.vvar = numbers[5] as u32;
+        self.mvar = numbers[6] as u32;
+        self.phase = Phase::AsItIs;
+        self.done.clear();
+        Ok(())
+    }
+
+    /// The avar is these bytes from now on, behind the font's own.
+    pub fn put_avar(&mut self, word: &str) -> Wrong<()> {
+        self.data.truncate(self.whole);
+        self.avar = self.whole as u32;
+        self.data.extend(hex(word)?);
+        self.phase = Phase::Damaged;
+        self.done = format!(", avar {}", word);
+        Ok(())
+    }
+
+    /// Bytes that are other ones until they are set again: places and bytes, in turn.
+    pub fn set(&mut self, changes: &[&str]) -> Wrong<()> {
+        for change in changes.chunks(2) {
+            let (p, new) = match change {
+                [p, new] => (number(p)?, hex(new)?),
+                _ => return Err("a place without bytes".to_string()),
+            };
+            let old = self.data.get_mut(p..p + new.len()).ok_or("no such place")?;
+            old.copy_from_slice(&new);
+        }
+        self.phase = match self.phase {
+            Phase::Filled => Phase::AsItIs,
+            _ => Phase::Filled,
+        };
+        self.done = match self.phase {
+            Phase::Filled => format!(", set {}", changes.join(" ")),
+            _ => String::new(),
+        };
+        Ok(())
+    }
+
+    pub fn title(&self) -> String {
+        format!("{}, face {}{}", self.name, self.face, self.done)
+    }
+
+    pub fn table(&self) -> &[u8] {
+        &self.data[self.fvar.0..self.fvar.0 + self.fvar.1]
+    }
+
+    pub fn has_avar(&self) -> bool {
+        self.avar != 0
+    }
+
+    pub fn is_variable(&self) -> bool {
+        self.fvar.1 != 0
+    }
+
+    pub fn rule_avar(&self) -> Avar {
+        Avar {
+            font: &self.data,
+            offset: self.avar as usize,
+        }
+    }
+}

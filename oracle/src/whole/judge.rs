@@ -1,0 +1,258 @@
+//! What is compared, and what counts as a difference. README.md has the rules.
+
+use crate::axes::rules::Answer;
+use crate::deciding::{Why, WHYS};
+use std::fmt::Debug;
+
+#[derive(Clone, Copy, PartialEq)]
+pub enum Function {
+    Counts,
+    Axis,
+    AxisByTag,
+    Instance,
+    NormalizedCoord,
+    NormalizedCoords,
+    InstanceCoords,
+    Measures,
+    ScaleMeasures,
+    LinearScaleMeasures,
+    AdvanceWidth,
+    Lsb,
+    AdvanceHeight,
+    Tsb,
+    VerticalOrigin,
+}
+
+pub const FUNCTIONS: [&str; 15] = [
+    "axis_count, instance_count",
+    "axis",
+    "axis_by_tag",
+    "instance, instance_floats",
+    "normalized_coords, one axis",
+    "normalized_coords",
+    "instance_coords",
+    "materialize_metrics",
+    "scale_metrics",
+    "linear_scale_metrics",
+    "advance_width",
+    "lsb",
+    "advance_height",
+    "tsb",
+    "vertical_origin",
+];
+
+/// What the Rust does.
+#[derive(Clone, PartialEq)]
+pub enum Rust<T> {
+    Answer(T),
+    None,
+    Stops,
+}
+
+#[derive(Clone, Copy, Default)]
+pub struct Tally {
+    pub cases: u64,
+    /// the Rust's answer, where document 01's avar rule has no say of its own
+    pub equal: u64,
+    /// the same where it may have
+    pub kept: u64,
+    /// document 01's answer, which is not the Rust's
+    pub decided: u64,
+    /// the refusal of the rules where the Rust answers `None`
+    pub none: u64,
+    /// what the rules say where it stops
+    pub stops: u64,
+    pub differences: u64,
+}
+
+impl Tally {
+    pub fn add(&mut self, other: &Tally) {
+        self.cases += other.cases;
+        self.equal += other.equal;
+        self.kept += other.kept;
+        self.decided += other.decided;
+        self.none += other.none;
+        self.stops += other.stops;
+        self.differences += other.differences;
+    }
+
+    pub fn columns(&self) -> [u64; 7] {
+        [
+            self.cases,
+            self.equal,
+            self.none,
+            self.stops,
+            self.kept,
+            self.decided,
+            self.differences,
+        ]
+    }
+}
+
+pub const COLUMNS: [&str; 7] = [
+    "cases",
+    "equal",
+    "None",
+    "Rust stops",
+    "01, equal",
+    "01 decides",
+    "differences",
+];
+
+/// All that is counted of one state of a font. Of coordinates where document 01 may decide: how many there
+/// are, and how many are the Rust's all the same.
+#[derive(Clone, Copy, Default)]
+pub struct Counts {
+    pub functions: [Tally; FUNCTIONS.len()],
+    pub whys: [[u64; 2]; WHYS.len()],
+}
+
+pub struct Judge {
+    /// the font, and what was done to it
+    pub input: String,
+    counts: Counts,
+    /// whether each answer is printed
+    loud: bool,
+}
+
+/// Stands for a refusal that changed a lent list, which none may.
+pub const CHANGED: u8 = 255;
+
+fn answer_text<T: Debug>(answer: &Answer<T>) -> String {
+    match answer {
+        Ok(value) => format!("{:?}", value),
+        Err(CHANGED) => "a refusal that changed a list".to_string(),
+        Err(number) => format!("refusal {}", number),
+    }
+}
+
+fn rust_text<T: Debug>(rust: &Rust<T>) -> String {
+    match rust {
+        Rust::Answer(answer) => format!("{:?}", answer),
+        Rust::None => "None".to_string(),
+        Rust::Stops => "a stop".to_string(),
+    }
+}
+
+impl Judge {
+    pub fn new(loud: bool) -> Self {
+        Judge {
+            input: String::new(),
+            counts: Counts::default(),
+            loud,
+        }
+    }
+
+    pub fn take(&mut self) -> Counts {
+        std::mem::take(&mut self.counts)
+    }
+
+    fn difference(&mut self, function: Function, arguments: String, texts: [String; 3]) {
+        self.counts.functions[function as usize].differences += 1;
+        println!("difference: {}", self.input);
+        println!("    {}, {}", FUNCTIONS[function as usize], arguments);
+        println!("    ours {}; the Rust {}; the rules {}", texts[0], texts[1], texts[2]);
+    }
+
+    /// One case. By the rules an answer is the Rust's, `None` is one of 1 to 4, a stop is 5, or 2 where
+    /// `few_left` says so. Ours is what the rules say.
+    pub fn judge<T: PartialEq + Debug>(
+        &mut self,
+        function: Function,
+        arguments: impl Fn() -> String,
+        rust: Rust<T>,
+        ours: Answer<T>,
+        rule: Answer<T>,
+        few_left: bool,
+    ) {
+        let tally = &mut self.counts.functions[function as usize];
+        tally.cases += 1;
+        let (count, fits) = match &rust {
+            Rust::Answer(answer) => (&mut tally.equal, rule.as_ref() == Ok(answer)),
+            Rust::None => (&mut tally.none, matches!(rule, Err(1..=4))),
+            Rust::Stops => (&mut tally.stops, rule == Err(5) || (rule == Err(2) && few_left)),
+        };
+        if fits && ours == rule {
+            *count += 1;
+        } else {
+            let texts = [answer_text(&ours), rust_text(&rust), answer_text(&rule)];
+            self.difference(function, arguments(), texts);
+        }
+    }
+
+    /// The same for coordinates, each with why document 01 may decide, if it may: there the Rust's may be
+    /// another one.
+    pub fn coords(
+        &mut self,
+        function: Function,
+        arguments: impl Fn() -> String,
+        rust: Rust<Vec<i16>>,
+        ours: Answer<Vec<i16>>,
+        rule: Answer<Vec<i16>>,
+        whys: &[Option<Why>],
+    ) {
+        if self.loud {
+            let texts = [rust_text(&rust), answer_text(&ours)];
+            let why = whys[0].map_or("", |why| WHYS[why as usize]);
+            println!("{}: {}: swash {}, ours {}{}{}", self.input, arguments(), texts[0], texts[1], if why.is_empty() { "" } else { "; " }, why);
+        }
+        let (theirs, said) = match (&rust, &rule) {
+            (Rust::Answer(theirs), Ok(said)) if theirs.len() == said.len() && said.len() == whys.len() => (theirs, said),
+            _ => return self.judge(function, arguments, rust, ours, rule, false),
+        };
+        let apart: Vec<bool> = theirs.iter().zip(said).map(|(a, b)| a != b).collect();
+        let free = apart.iter().zip(whys).all(|(apart, why)| !apart || why.is_some());
+        if !free || ours != rule {
+            let tally = &mut self.counts.functions[function as usize];
+            tally.cases += 1;
+            let texts = [answer_text(&ours), rust_text(&rust), answer_text(&rule)];
+            return self.difference(function, arguments(), texts);
+        }
+        for (why, apart) in whys.iter().zip(&apart) {
+            if let Some(why) = why {
+                let counts = &mut self.counts.whys[*why as usize];
+                counts[0] += 1;
+                counts[1] += !apart as u64;
+            }
+        }
+        let tally = &mut self.counts.functions[function as usize];
+        tally.cases += 1;
+        if apart.contains(&true) {
+            tally.decided += 1;
+        } else if whys.iter().any(Option::is_some) {
+            tally.kept += 1;
+        } else {
+            tally.equal += 1;
+        }
+    }
+
+    /// A float, or some; where a delta on the way is refused by 5 the Rust stops, and nowhere else.
+    pub fn floats(
+        &mut self,
+        function: Function,
+        arguments: impl Fn() -> String,
+        rust: Option<&[f32]>,
+        ours: &[f32],
+        rule: &[f32],
+        refused_by_5: bool,
+    ) {
+        let tally = &mut self.counts.functions[function as usize];
+        tally.cases += 1;
+        let fits = match rust {
+            Some(floats) => !refused_by_5 && same(floats, rule),
+            None => refused_by_5,
+        };
+        if fits && same(ours, rule) {
+            *(if rust.is_some() { &mut tally.equal } else { &mut tally.stops }) += 1;
+            return;
+        }
+        let theirs = rust.map_or("a stop".to_string(), |floats| format!("{:?}", floats));
+        let texts = [format!("{:?}", ours), theirs, format!("{:?}", rule)];
+        self.difference(function, arguments(), texts);
+    }
+}
+
+/// By their bits, a NaN as a NaN.
+fn same(a: &[f32], b: &[f32]) -> bool {
+    a.len() == b.len() && a.iter().zip(b).all(|(a, b)| a.to_bits() == b.to_bits() || (a.is_nan() && b.is_nan()))
+}

@@ -1,0 +1,63 @@
+//! One face, and where its tables are: by swash's own search of the directory.
+
+use swash::{tag_from_bytes, FontRef};
+
+#[derive(Clone, Copy)]
+pub struct Face<'a> {
+    pub font: FontRef<'a>,
+    pub index: usize,
+}
+
+/// Start and length of a table, both 0 where there is none.
+pub fn place(font: &FontRef, tag: &[u8; 4]) -> (usize, usize) {
+    font.table(tag_from_bytes(tag)).map_or((0, 0), |table| {
+        (table.as_ptr() as usize - font.data.as_ptr() as usize, table.len())
+    })
+}
+
+impl<'a> Face<'a> {
+    pub fn at(data: &'a [u8], index: usize) -> Option<Self> {
+        let font = FontRef::from_index(data, index)?;
+        Some(Face { font, index })
+    }
+
+    pub fn has(&self, tag: &[u8; 4]) -> bool {
+        self.font.table(tag_from_bytes(tag)).is_some()
+    }
+
+    pub fn table(&self, tag: &[u8; 4]) -> &'a [u8] {
+        self.font.table(tag_from_bytes(tag)).unwrap_or(&[])
+    }
+
+    /// The index, then start and length of fvar, then the start of the other four tables.
+    pub fn words(&self) -> Vec<String> {
+        let (start, length) = place(&self.font, b"fvar");
+        let mut words = vec![self.index, start, length];
+        for tag in [b"avar", b"HVAR", b"VVAR", b"MVAR"] {
+            words.push(place(&self.font, tag).0);
+        }
+        words.iter().map(usize::to_string).collect()
+    }
+}
+
+/// Where the directory has a table's record.
+pub fn record(font: &FontRef, tag: &[u8; 4]) -> Option<usize> {
+    let start = font.offset as usize;
+    let count = font.data.get(start + 4..start + 6)?;
+    let count = u16::from_be_bytes(count.try_into().ok()?) as usize;
+    let places = (0..count).map(|i| start + 12 + 16 * i);
+    let mut found = places.filter(|p| font.data.get(*p..*p + 4) == Some(tag));
+    found.next()
+}
+
+/// A copy of the font in which nothing varies: swash finds none of the tables by which a measure does. The
+/// new tags keep the directory in order.
+pub fn unvaried(face: &Face) -> Vec<u8> {
+    let mut copy = face.font.data.to_vec();
+    for tag in [b"HVAR", b"VVAR", b"MVAR"] {
+        if let Some(p) = record(&face.font, tag) {
+            copy[p + 3] = b'Q';
+        }
+    }
+    copy
+}

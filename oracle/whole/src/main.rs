@@ -1,0 +1,118 @@
+//! Asks the whole swash, through its public interface, about the fonts of a folder, and writes each
+//! question with swash's answer to standard output, one to a line, with a tab between two words.
+//! `oracle/src/whole.rs` reads them. README.md of `oracle` says what is asked, and how to run it.
+
+mod axes;
+mod face;
+mod files;
+mod lines;
+mod made;
+mod maps;
+mod metrics;
+// the build puts oracle/src/random.rs and text.rs beside this file
+#[allow(dead_code)]
+mod random;
+#[allow(dead_code)]
+mod text;
+
+use face::Face;
+use files::Files;
+use lines::Lines;
+use random::Random;
+use std::fs;
+use std::io;
+use std::path::Path;
+use std::process::ExitCode;
+use swash::FontDataRef;
+
+const USAGE: &str = "\
+whole fonts FOLDER ROUNDS SEED       the fonts below FOLDER, as they are, then each with its avar damaged
+                                     ROUNDS times by random from SEED
+whole made                           maps that were made by hand
+";
+
+/// Of a font that is not damaged the random numbers are always the same.
+const SEED: u64 = 20261116;
+
+/// A seed for one face and round, whatever other fonts there are.
+fn seed_of(seed: u64, name: &str, face: usize, round: u64) -> u64 {
+    let start = Random::new(seed.wrapping_add(round << 20)).bits();
+    let mix = |hash: u64, byte: u8| (hash ^ byte as u64).wrapping_mul(0x100_0000_01b3);
+    name.bytes().fold(start, mix).wrapping_add(face as u64)
+}
+
+fn file(lines: &mut Lines, folder: &Path, path: &Path, rounds: u64, seed: u64) -> io::Result<()> {
+    let mut data = fs::read(path)?;
+    let below = path.strip_prefix(folder).unwrap_or(path);
+    let name = path.file_name().map_or(String::new(), |n| n.to_string_lossy().to_string());
+    lines.put("file", &[path.display().to_string(), below.display().to_string()]);
+    let count = FontDataRef::new(&data).map_or(0, |font| font.len());
+    for index in 0..count {
+        let Some(face) = Face::at(&data, index) else { continue };
+        lines.put("face", &face.words());
+        let random = &mut Random::new(seed_of(SEED, &name, index, 0));
+        axes::ask(lines, &face, random);
+        metrics::ask(lines, &face, random);
+        let whole = data.len();
+        for round in 0..rounds {
+            let random = &mut Random::new(seed_of(seed, &name, index, round));
+            if !maps::damage(lines, &mut data, index, random) {
+                break;
+            }
+            data.truncate(whole);
+        }
+        // the last round's directory
+        data = fs::read(path)?;
+    }
+    Ok(())
+}
+
+fn fonts(folder: &Path, rounds: u64, seed: u64) -> io::Result<()> {
+    let files = Files::below(folder)?;
+    if files.fonts.is_empty() {
+        return Err(io::Error::other("no font below it"));
+    }
+    let mut lines = Lines::new();
+    for (why, paths) in [("larger than 32 MiB", &files.large), ("packed as WOFF", &files.packed)] {
+        for path in paths {
+            lines.put("left out", &[why.to_string(), path.display().to_string()]);
+        }
+    }
+    for (k, path) in files.fonts.iter().enumerate() {
+        eprintln!("swash: file {} of {}, {}", k + 1, files.fonts.len(), path.display());
+        file(&mut lines, folder, path, rounds, seed)?;
+    }
+    lines.end()
+}
+
+fn run(words: &[&str]) -> Option<io::Result<()>> {
+    match *words {
+        ["fonts", folder, rounds, seed] => {
+            Some(fonts(Path::new(folder), rounds.parse().ok()?, seed.parse().ok()?))
+        }
+        ["made"] => Some(made::ask()),
+        _ => None,
+    }
+}
+
+fn main() -> ExitCode {
+    // a stop of swash's is an answer here; any other is a fault of this program's
+    std::panic::set_hook(Box::new(|fault| {
+        if !lines::is_asked() {
+            eprintln!("swash: a fault of its own: {fault}");
+        }
+    }));
+    let words: Vec<String> = std::env::args().skip(1).collect();
+    let words: Vec<&str> = words.iter().map(String::as_str).collect();
+    match run(&words) {
+        Some(Ok(())) => ExitCode::SUCCESS,
+        Some(Err(why)) => {
+            eprintln!("swash: {}: {why}", words[1..].join(" "));
+            ExitCode::from(2)
+        }
+        None => {
+            eprint!("{USAGE}");
+            ExitCode::from(2)
+        }
+    }
+}

@@ -1,0 +1,215 @@
+//! Measures and glyph metrics, from what swash itself reads without the tables that vary them.
+
+use crate::axes::coords_text;
+use crate::face::{self, Face};
+use crate::lines::{asked, Lines};
+use crate::random::Random;
+use crate::text::{float_text, list_text, EMPTY};
+use swash::{FontRef, GlyphMetrics, Metrics};
+
+/// So many pairs of a glyph and a coordinate list are asked for of each face; but each list that is taken
+/// is asked for at every glyph.
+const PAIRS: usize = 200_000;
+
+/// How what is asked is scaled.
+#[derive(Clone, Copy)]
+enum Scale {
+    Plain,
+    Ppem(f32),
+    Linear(f32),
+}
+
+use Scale::{Linear, Plain, Ppem};
+
+const SCALES: [Scale; 12] = [
+    Plain,
+    Ppem(16.),
+    Linear(0.125),
+    Ppem(12.7),
+    Linear(-1.5),
+    Ppem(0.),
+    Linear(1e-3),
+    Ppem(2048.),
+    Linear(3e38),
+    Ppem(-0.),
+    Linear(f32::INFINITY),
+    Ppem(f32::NAN),
+];
+
+impl Scale {
+    fn words(self) -> [String; 2] {
+        match self {
+            Plain => ["plain".to_string(), EMPTY.to_string()],
+            Ppem(x) => ["ppem".to_string(), float_text(x)],
+            Linear(x) => ["linear".to_string(), float_text(x)],
+        }
+    }
+
+    fn measures(self, metrics: Metrics) -> Metrics {
+        match self {
+            Plain => metrics,
+            Ppem(x) => metrics.scale(x),
+            Linear(x) => metrics.linear_scale(x),
+        }
+    }
+
+    fn glyphs(self, metrics: GlyphMetrics) -> GlyphMetrics {
+        match self {
+            Plain => metrics,
+            Ppem(x) => metrics.scale(x),
+            Linear(x) => metrics.linear_scale(x),
+        }
+    }
+}
+
+/// In the library's order.
+fn measures_text(m: Metrics) -> String {
+    let list = [
+        m.ascent,
+        m.descent,
+        m.leading,
+        m.vertical_ascent,
+        m.vertical_descent,
+        m.vertical_leading,
+        m.cap_height,
+        m.x_height,
+        m.average_width,
+        m.max_width,
+        m.underline_offset,
+        m.strikeout_offset,
+        m.stroke_size,
+    ];
+    list_text(list.into_iter().map(float_text))
+}
+
+pub fn ask(lines: &mut Lines, face: &Face, random: &mut Random) {
+    let copy = face::unvaried(face);
+    let Some(unvaried) = Face::at(&copy, face.index) else { return };
+    let lists = lists(face.font, random);
+    measures(lines, face.font, unvaried.font, &lists);
+    let count = face.font.metrics(&[]).glyph_count;
+    vertical(lines, face, unvaried.font);
+    glyphs(lines, &unvaried, count);
+    let most = (PAIRS / (count as usize).max(1)).max(4);
+    if most < lists.len() {
+        let name = format!("{} of {} lists", lists.len() - most, lists.len());
+        lines.put("lists left out", &[name]);
+    }
+    for (k, list) in lists.iter().take(most).enumerate() {
+        at(lines, face.font, list, SCALES[k % SCALES.len()], count);
+    }
+}
+
+fn measures(lines: &mut Lines, font: FontRef, unvaried: FontRef, lists: &[Vec<i16>]) {
+    let plain = unvaried.metrics(&[]);
+    let vertical = plain.has_vertical_metrics as u8;
+    let numbers = [plain.units_per_em.to_string(), vertical.to_string()];
+    lines.put("unvaried", &[&numbers[..], &[measures_text(plain)]].concat());
+    for list in lists {
+        for scale in SCALES {
+            let answer = asked(|| measures_text(scale.measures(font.metrics(list))));
+            let words = [coords_text(list.iter().copied())];
+            lines.put("measures", &[&words[..], &scale.words(), &[answer]].concat());
+        }
+    }
+}
+
+/// Which of swash's three cases of vertical type the font is, as its metrics.rs finds it; where MVAR is for
+/// that; the two floats of the synthesized case.
+fn vertical(lines: &mut Lines, face: &Face, unvaried: FontRef) {
+    let metrics = unvaried.glyph_metrics(&[]);
+    let synthesized = !metrics.has_vertical_metrics();
+    let case = match (synthesized, face.has(b"VORG")) {
+        (true, _) => 2,
+        (false, true) => 1,
+        (false, false) => 0,
+    };
+    // with vmtx, but neither VORG nor glyf, no MVAR is kept for it
+    let no_mvar = face.has(b"vhea") && face.has(b"vmtx");
+    let floats = [metrics.advance_height(0), metrics.vertical_origin(0)];
+    let words = [case.to_string(), (no_mvar as u8).to_string()];
+    lines.put("vertical", &[&words[..], &floats.map(float_text)].concat());
+}
+
+/// The five unvaried numbers of each glyph. A bearing of 257 for all glyphs shows swash's yMax, and whether it
+/// has one: its origin is yMax + 257, and at scale 2 twice yMax and four times 257, since the bearing is
+/// scaled twice; without a yMax it is just twice as much.
+fn glyphs(lines: &mut Lines, unvaried: &Face, count: u16) {
+    let metrics = unvaried.font.glyph_metrics(&[]);
+    let mut other = unvaried.font.data.to_vec();
+    let (start, length) = face::place(&unvaried.font, b"vmtx");
+    other[start..start + length].fill(1);
+    let Some(other) = Face::at(&other, unvaried.index) else { return };
+    let other = other.font.glyph_metrics(&[]);
+    let synthesized = !metrics.has_vertical_metrics();
+    let by_vorg = unvaried.has(b"VORG");
+    let y = |glyph| {
+        let [once, twice] = [1., 2.].map(|scale| other.linear_scale(scale).vertical_origin(glyph));
+        match by_vorg {
+            true => Some(metrics.vertical_origin(glyph)),
+            false => (twice != 2. * once).then_some(once - 257.),
+        }
+    };
+    for glyph in asked_for(count) {
+        let answer = asked(|| {
+            let vertical = match synthesized {
+                // its floats are the font's and no glyph's
+                true => [Some(0.), Some(0.), None],
+                false => [Some(metrics.advance_height(glyph)), Some(metrics.tsb(glyph)), y(glyph)],
+            };
+            let horizontal = [Some(metrics.advance_width(glyph)), Some(metrics.lsb(glyph))];
+            let numbers = horizontal.into_iter().chain(vertical);
+            list_text(numbers.map(|n| n.map_or(EMPTY.to_string(), |n| n.to_string())))
+        });
+        lines.put("glyph", &[glyph.to_string(), answer]);
+    }
+}
+
+/// Each glyph, one past the last, and the last of all numbers.
+fn asked_for(count: u16) -> impl Iterator<Item = u16> {
+    (0..=count).chain((count < 65535).then_some(65535))
+}
+
+fn at(lines: &mut Lines, font: FontRef, list: &[i16], scale: Scale, count: u16) {
+    let words = [coords_text(list.iter().copied())];
+    lines.put("at", &[&words[..], &scale.words()].concat());
+    let metrics = scale.glyphs(font.glyph_metrics(list));
+    for glyph in asked_for(count) {
+        let answer = asked(|| {
+            let floats = [
+                metrics.advance_width(glyph),
+                metrics.lsb(glyph),
+                metrics.advance_height(glyph),
+                metrics.tsb(glyph),
+                metrics.vertical_origin(glyph),
+            ];
+            floats.map(float_text).join(",")
+        });
+        lines.put("metrics", &[glyph.to_string(), answer]);
+    }
+}
+
+/// None; the default; random ones; each axis end alone; all ends; the instances; the ends of the 2.14 range;
+/// one coordinate too few and too many.
+fn lists(font: FontRef, random: &mut Random) -> Vec<Vec<i16>> {
+    let count = font.variations().len();
+    if count == 0 {
+        return vec![vec![], vec![0], vec![8192]];
+    }
+    let mut inside = || (0..count).map(|_| (random.below(32769) as i32 - 16384) as i16).collect::<Vec<i16>>();
+    let mut lists = vec![vec![], inside(), inside(), vec![0; count], vec![16384; count], vec![-16384; count]];
+    lists.extend((0..6).map(|_| inside()));
+    for axis in 0..count {
+        for end in [-16384, 16384] {
+            let mut list = vec![0; count];
+            list[axis] = end;
+            lists.push(list);
+        }
+    }
+    let named = font.instances().map(|instance| instance.normalized_coords().collect());
+    lists.extend(named.take(24));
+    lists.extend([vec![i16::MIN; count], vec![i16::MAX; count]]);
+    lists.push(inside()[1..].to_vec());
+    lists.push([inside(), vec![8192]].concat());
+    lists
+}

@@ -71,7 +71,11 @@ impl Reader {
         let words: Vec<&str> = line.split('\t').collect();
         match (words[0], &words[1..]) {
             ("left out", [why, path]) => println!("left out, {}: {}", why, path),
-            ("lists left out", [count]) => println!("{}: {} left out at its glyphs", self.font.title(), count),
+            ("lists left out", [count]) => {
+                if self.font.phase == Phase::AsItIs {
+                    println!("{}: {} left out at its glyphs", self.font.title(), count);
+                }
+            }
             ("file", [path, below]) => {
                 self.settle();
                 self.font = Font::read(path, below)?;
@@ -89,9 +93,9 @@ impl Reader {
                 self.settle();
                 self.font.put_avar(bytes)?;
             }
-            ("set", changes) => {
+            ("filled", [vvar, behind, changes @ ..]) => {
                 self.settle();
-                self.font.set(changes)?;
+                self.font.fill(vvar, behind, changes)?;
             }
             ("end", []) => {
                 self.settle();
@@ -162,6 +166,6 @@ fn main() -> ExitCode {
 /// For the tables: each state of a font is counted apart.
 const PHASES: [(Phase, &str); 3] = [
     (Phase::AsItIs, "The fonts as they are"),
-    (Phase::Filled, "With a map of bearings, the advances' one, and MVAR's indices as swash takes them"),
+    (Phase::Filled, "The fonts filled: maps of bearings, MVAR's indices as swash takes them, vertical metrics"),
     (Phase::Damaged, "With avar damaged"),
 ];

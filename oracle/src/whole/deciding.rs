@@ -5,9 +5,9 @@
 //!   document 01 leaves its value;
 //! - a value before the first pair, or behind the last one, is moved as that pair is, where document 01 leaves
 //!   it. So is every value but the one from, where there is one pair;
-//! - it looks for an equal from in the whole map, and takes of several the last, the first, the middle one or
-//!   the one with the smaller to; document 01 takes the first pair whose from is not below the value. In a map
-//!   whose from values rise these are the same pair.
+//! - it looks for a from that is the value in the whole map, and takes of several in a row the last, the first,
+//!   the middle one or the one with the smaller to; document 01 takes the first pair whose from is not below the
+//!   value.
 //!
 //! Anywhere else a difference is one.
 
@@ -17,13 +17,13 @@ use crate::axes::rules::{pairs, unsigned, Avar};
 pub enum Why {
     Past,
     Outside,
-    Order,
+    Equal,
 }
 
 pub const WHYS: [&str; 3] = [
-    "the axis is at or past avar's count",
-    "the value is outside of the map's pairs",
-    "the map's from values don't rise",
+    "axis at or past avar's count",
+    "value before the first pair, or behind all",
+    "value a from twice, or behind a larger one",
 ];
 
 /// Of a value of an axis, in 16.16, as avar is handed it.
@@ -32,13 +32,17 @@ pub fn why(avar: Avar, axis: usize, value: i128) -> Option<Why> {
     if avar.offset != 0 && count.map_or(false, |count| axis as i128 >= count) {
         return Some(Why::Past);
     }
-    let pairs = pairs(avar, axis)?;
-    if pairs.windows(2).any(|two| two[0].0 >= two[1].0) {
-        return Some(Why::Order);
+    let froms: Vec<i128> = pairs(avar, axis)?.into_iter().map(|(from, _)| from).collect();
+    match froms.iter().position(|from| *from == value) {
+        Some(k) => {
+            let late = froms[..k].iter().any(|from| *from > value);
+            let twice = froms.get(k + 1) == Some(&value);
+            (late || twice).then_some(Why::Equal)
+        }
+        None => {
+            let before = *froms.first()? > value;
+            let behind = froms.iter().all(|from| *from < value);
+            (before || behind).then_some(Why::Outside)
+        }
     }
-    let (first, last) = (pairs.first()?.0, pairs.last()?.0);
-    if value < first || last < value {
-        return Some(Why::Outside);
-    }
-    None
 }

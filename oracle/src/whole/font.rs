@@ -29,8 +29,9 @@ pub struct Font {
     /// what was done to it
     done: String,
     face: usize,
-    /// how many bytes it has without what was put behind them
+    /// how many bytes it has without what was put behind them, and those that were changed
     whole: usize,
+    changed: Vec<(usize, Vec<u8>)>,
     /// start and length
     fvar: (usize, usize),
     /// starts, 0 where there is none
@@ -79,7 +80,7 @@ impl Font {
         if numbers.len() != 7 || numbers[1] + numbers[2] > self.whole {
             return Err("these are no places of tables".to_string());
         }
-        self.data.truncate(self.whole);
+        self.undo();
         self.face = numbers[0];
         self.fvar = (numbers[1], numbers[2]);
         self.avar = numbers[3] as u32;
@@ -91,9 +92,17 @@ impl Font {
         Ok(())
     }
 
+    /// The font as it was read.
+    fn undo(&mut self) {
+        self.data.truncate(self.whole);
+        for (p, old) in self.changed.drain(..).rev() {
+            self.data[p..p + old.len()].copy_from_slice(&old);
+        }
+    }
+
     /// The avar is these bytes from now on, behind the font's own.
     pub fn put_avar(&mut self, word: &str) -> Wrong<()> {
-        self.data.truncate(self.whole);
+        self.undo();
         self.avar = self.whole as u32;
         self.data.extend(hex(word)?);
         self.phase = Phase::Damaged;
@@ -101,24 +110,23 @@ impl Font {
         Ok(())
     }
 
-    /// Bytes that are other ones until they are set again: places and bytes, in turn.
-    pub fn set(&mut self, changes: &[&str]) -> Wrong<()> {
+    /// Another VVAR, bytes behind the font's own, and changes of these, a place and its new bytes in turn.
+    pub fn fill(&mut self, vvar: &str, behind: &str, changes: &[&str]) -> Wrong<()> {
+        self.undo();
         for change in changes.chunks(2) {
             let (p, new) = match change {
                 [p, new] => (number(p)?, hex(new)?),
                 _ => return Err("a place without bytes".to_string()),
             };
             let old = self.data.get_mut(p..p + new.len()).ok_or("no such place")?;
+            self.changed.push((p, old.to_vec()));
             old.copy_from_slice(&new);
         }
-        self.phase = match self.phase {
-            Phase::Filled => Phase::AsItIs,
-            _ => Phase::Filled,
-        };
-        self.done = match self.phase {
-            Phase::Filled => format!(", set {}", changes.join(" ")),
-            _ => String::new(),
-        };
+        self.vvar = number(vvar)? as u32;
+        self.data.extend(hex(behind)?);
+        self.phase = Phase::Filled;
+        let more = self.data.len() - self.whole;
+        self.done = format!(", filled: VVAR at {}, {} bytes more, set {}", vvar, more, changes.join(" "));
         Ok(())
     }
 

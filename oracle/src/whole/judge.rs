@@ -111,9 +111,14 @@ pub struct Judge {
     /// the font, and what was done to it
     pub input: String,
     counts: Counts,
+    /// how many differences of each function were listed
+    listed: [u64; FUNCTIONS.len()],
     /// whether each answer is printed
     loud: bool,
 }
+
+/// So many differences of each function are listed; all are counted.
+const LISTED: u64 = 20;
 
 /// Stands for a refusal that changed a lent list, which none may.
 pub const CHANGED: u8 = 255;
@@ -139,6 +144,7 @@ impl Judge {
         Judge {
             input: String::new(),
             counts: Counts::default(),
+            listed: [0; FUNCTIONS.len()],
             loud,
         }
     }
@@ -149,6 +155,11 @@ impl Judge {
 
     fn difference(&mut self, function: Function, arguments: String, texts: [String; 3]) {
         self.counts.functions[function as usize].differences += 1;
+        let listed = &mut self.listed[function as usize];
+        *listed += 1;
+        if *listed > LISTED {
+            return;
+        }
         println!("difference: {}", self.input);
         println!("    {}, {}", FUNCTIONS[function as usize], arguments);
         println!("    ours {}; the Rust {}; the rules {}", texts[0], texts[1], texts[2]);
@@ -226,28 +237,29 @@ impl Judge {
         }
     }
 
-    /// A float, or some; where a delta on the way is refused by 5 the Rust stops, and nowhere else.
+    /// A float, or some. The rules, which also say whether a delta on the way is refused by 5, are asked where
+    /// ours is not the Rust's: there it must have stopped, by that delta, and ours is theirs.
     pub fn floats(
         &mut self,
         function: Function,
         arguments: impl Fn() -> String,
         rust: Option<&[f32]>,
         ours: &[f32],
-        rule: &[f32],
-        refused_by_5: bool,
+        rule: impl FnOnce() -> (Vec<f32>, bool),
     ) {
         let tally = &mut self.counts.functions[function as usize];
         tally.cases += 1;
-        let fits = match rust {
-            Some(floats) => !refused_by_5 && same(floats, rule),
-            None => refused_by_5,
-        };
-        if fits && same(ours, rule) {
-            *(if rust.is_some() { &mut tally.equal } else { &mut tally.stops }) += 1;
+        if rust.map_or(false, |floats| same(floats, ours)) {
+            tally.equal += 1;
+            return;
+        }
+        let (said, refused_by_5) = rule();
+        if rust.is_none() && refused_by_5 && same(ours, &said) {
+            tally.stops += 1;
             return;
         }
         let theirs = rust.map_or("a stop".to_string(), |floats| format!("{:?}", floats));
-        let texts = [format!("{:?}", ours), theirs, format!("{:?}", rule)];
+        let texts = [format!("{:?}", ours), theirs, format!("{:?}", said)];
         self.difference(function, arguments(), texts);
     }
 }

@@ -2,8 +2,9 @@
 
 use crate::font::Font;
 use crate::judge::{Function, Judge};
-use crate::metrics::rules::{scale_for, scaled, Measures, Place};
-use crate::suolluvik;
+use crate::metrics::rules::{self, scale_for, scaled, Measures, Place};
+use crate::store::rules::Map;
+use crate::suolluvik::{self, GlyphMetrics};
 use crate::text::{self, halves, EMPTY};
 
 /// How what is asked is scaled.
@@ -14,14 +15,8 @@ enum Scale {
     Linear(f32),
 }
 
-impl Default for Scale {
-    fn default() -> Self {
-        Scale::Plain
-    }
-}
-
 /// A glyph's unvaried numbers; y is yMax or VORG's origin.
-#[derive(Clone, Copy)]
+#[derive(Clone, Copy, Debug)]
 struct Unvaried {
     width: u16,
     lsb: i16,
@@ -30,21 +25,26 @@ struct Unvaried {
     y: Option<i16>,
 }
 
+/// A place at which glyphs are asked for: ours, and the same by the rules.
+struct At {
+    coords: Vec<i16>,
+    scale: Scale,
+    ours: GlyphMetrics,
+    rule_vertical: rules::Vertical,
+    rule_scale: f32,
+    /// whether a delta of the synthesized case is refused by 5
+    refused_by_5: bool,
+}
+
 /// What the lines before have said of the face.
 #[derive(Default)]
 pub struct Metrics {
     units_per_em: u16,
     has_vertical: bool,
     measures: Measures,
-    /// 0 with glyf, 1 with VORG, 2 synthesized
-    vertical: u8,
-    /// the MVAR of the synthesized case
-    mvar: u32,
-    advance: f32,
-    origin: f32,
+    vertical: Option<suolluvik::Vertical>,
     glyphs: Vec<Option<Unvaried>>,
-    coords: Vec<i16>,
-    scale: Scale,
+    at: Option<At>,
 }
 
 fn float(word: &str) -> Option<f32> {
@@ -96,10 +96,16 @@ impl Metrics {
                 self.measures_at(judge, font, &halves(coords)?, scale_of(kind, x)?, answer)?;
             }
             ("vertical", [case, no_mvar, advance, origin]) => {
-                self.vertical = case.parse().ok()?;
-                self.mvar = if *no_mvar == "1" { 0 } else { font.mvar };
-                self.advance = float(advance)?;
-                self.origin = float(origin)?;
+                let mvar = if *no_mvar == "1" { 0 } else { font.mvar };
+                self.vertical = Some(match *case {
+                    "0" => suolluvik::Vertical::VmtxGlyf { vvar: font.vvar },
+                    "1" => suolluvik::Vertical::VmtxVorg { vvar: font.vvar },
+                    _ => suolluvik::Vertical::Synthesized {
+                        mvar,
+                        advance: float(advance)?,
+                        origin: float(origin)?,
+                    },
+                });
                 self.glyphs.clear();
             }
             ("glyph", [glyph, answer]) => {
@@ -108,10 +114,9 @@ impl Metrics {
                 self.glyphs[glyph] = Some(unvaried(answer)?);
             }
             ("at", [coords, kind, x]) => {
-                self.coords = halves(coords)?;
-                self.scale = scale_of(kind, x)?;
+                self.at = Some(self.at(font, halves(coords)?, scale_of(kind, x)?)?);
             }
-            ("metrics", [_, _]) => (),
+            ("metrics", [glyph, answer]) => self.glyph(judge, font, glyph.parse().ok()?, answer)?,
             _ => return None,
         }
         Some(())
@@ -119,31 +124,173 @@ impl Metrics {
 
     fn measures_at(&self, judge: &mut Judge, font: &Font, coords: &[i16], scale: Scale, answer: &str) -> Option<()> {
         let units = self.units_per_em;
-        let mut ours = self.measures;
-        // a list of thirteen is refused by nothing
+        let mut ours = record(self.measures);
+        // nothing here is refused
         suolluvik::materialize_metrics(&font.data, font.mvar, coords, self.has_vertical, &mut ours).ok()?;
-        let mut place = Place {
-            font: &font.data,
-            coords,
-            refused_by_5: false,
-        };
-        let rule = place.materialize(self.measures, font.mvar, self.has_vertical);
-        let (function, rule) = match scale {
-            Scale::Plain => (Function::Measures, rule),
+        let (function, factor) = match scale {
+            Scale::Plain => (Function::Measures, 1.),
             Scale::Ppem(ppem) => {
                 suolluvik::scale_metrics(units, ppem, &mut ours).ok()?;
-                (Function::ScaleMeasures, scaled(rule, scale_for(ppem, units)))
+                (Function::ScaleMeasures, scale_for(ppem, units))
             }
             Scale::Linear(factor) => {
                 suolluvik::linear_scale_metrics(factor, &mut ours).ok()?;
-                (Function::LinearScaleMeasures, scaled(rule, factor))
+                (Function::LinearScaleMeasures, factor)
             }
+        };
+        let rule = || {
+            let mut place = Place {
+                font: &font.data,
+                coords,
+                refused_by_5: false,
+            };
+            let rule = place.materialize(self.measures, font.mvar, self.has_vertical);
+            (scaled(rule, factor).to_vec(), place.refused_by_5)
         };
         let rust = if answer == "stops" { None } else { Some(floats(answer)?) };
         let arguments = || format!("coordinates {:?}, {}", coords, scale_text(scale));
-        judge.floats(function, arguments, rust.as_deref(), &ours, &rule, place.refused_by_5);
+        judge.floats(function, arguments, rust.as_deref(), &list(ours), rule);
         Some(())
     }
+
+    fn at(&self, font: &Font, coords: Vec<i16>, scale: Scale) -> Option<At> {
+        let unscaled = GlyphMetrics {
+            units_per_em: self.units_per_em,
+            hvar: font.hvar,
+            vertical: self.vertical?,
+            scale: 1.,
+        };
+        let ours = unscaled.materialize(&font.data, &coords);
+        let (ours, rule_scale) = match scale {
+            Scale::Plain => (ours, 1.),
+            Scale::Ppem(ppem) => (ours.scale(ppem), scale_for(ppem, self.units_per_em)),
+            Scale::Linear(factor) => (ours.linear_scale(factor), factor),
+        };
+        let mut place = Place {
+            font: &font.data,
+            coords: &coords,
+            refused_by_5: false,
+        };
+        let rule_vertical = place.materialize_vertical(rule_vertical(self.vertical?));
+        Some(At {
+            refused_by_5: place.refused_by_5,
+            coords,
+            scale,
+            ours,
+            rule_vertical,
+            rule_scale,
+        })
+    }
+
+    /// The five metrics of a glyph.
+    fn glyph(&self, judge: &mut Judge, font: &Font, glyph: u16, answer: &str) -> Option<()> {
+        let at = self.at.as_ref()?;
+        let unvaried = (*self.glyphs.get(usize::from(glyph))?)?;
+        let (data, coords) = (&font.data[..], &at.coords[..]);
+        let ours = [
+            at.ours.advance_width(data, glyph, coords, unvaried.width),
+            at.ours.lsb(data, glyph, coords, unvaried.lsb),
+            at.ours.advance_height(data, glyph, coords, unvaried.height),
+            at.ours.tsb(data, glyph, coords, unvaried.tsb),
+            at.ours.vertical_origin(data, glyph, coords, unvaried.tsb, unvaried.y),
+        ];
+        let mut words = answer.split(',');
+        for (k, ours) in ours.iter().enumerate() {
+            let rust = match words.next()? {
+                "stops" => None,
+                word => Some([float(word)?]),
+            };
+            let rule = || self.rule(font, at, glyph, unvaried, k);
+            let arguments = || format!("glyph {}, {:?}, coordinates {:?}, {}", glyph, unvaried, coords, scale_text(at.scale));
+            let rust = rust.as_ref().map(|float| &float[..]);
+            judge.floats(GLYPHS[k], arguments, rust, &[*ours], rule);
+        }
+        Some(())
+    }
+
+    /// What the rules say of one of the five, and whether a delta of it is refused by 5.
+    fn rule(&self, font: &Font, at: &At, glyph: u16, unvaried: Unvaried, k: usize) -> (Vec<f32>, bool) {
+        let mut place = Place {
+            font: &font.data,
+            coords: &at.coords,
+            refused_by_5: at.refused_by_5,
+        };
+        let (vertical, scale, y) = (at.rule_vertical, at.rule_scale, unvaried.y);
+        let value = match GLYPHS[k] {
+            Function::AdvanceWidth => place.varied(unvaried.width.into(), font.hvar, Map::Advance, glyph, scale),
+            Function::Lsb => place.varied(unvaried.lsb.into(), font.hvar, Map::Bearing, glyph, scale),
+            Function::AdvanceHeight => place.height(vertical, unvaried.height, glyph, scale),
+            Function::Tsb => place.top(vertical, unvaried.tsb, glyph, scale),
+            _ => {
+                let top = || place.top(vertical, unvaried.tsb, glyph, scale);
+                rules::origin(vertical, y, y, self.units_per_em, scale, top)
+            }
+        };
+        (vec![value], place.refused_by_5)
+    }
+}
+
+const GLYPHS: [Function; 5] = [
+    Function::AdvanceWidth,
+    Function::Lsb,
+    Function::AdvanceHeight,
+    Function::Tsb,
+    Function::VerticalOrigin,
+];
+
+fn rule_vertical(vertical: suolluvik::Vertical) -> rules::Vertical {
+    match vertical {
+        suolluvik::Vertical::VmtxGlyf { vvar } => rules::Vertical::Glyf { vvar },
+        suolluvik::Vertical::VmtxVorg { vvar } => rules::Vertical::Vorg { vvar },
+        suolluvik::Vertical::Synthesized {
+            mvar,
+            advance,
+            origin,
+        } => rules::Vertical::Synthesized {
+            mvar,
+            advance,
+            origin,
+        },
+    }
+}
+
+/// The library's record of a list of measures.
+fn record(list: Measures) -> suolluvik::Metrics {
+    let [ascent, descent, leading, vertical_ascent, vertical_descent, vertical_leading, cap_height, x_height, average_width, max_width, underline_offset, strikeout_offset, stroke_size] =
+        list;
+    suolluvik::Metrics {
+        ascent,
+        descent,
+        leading,
+        vertical_ascent,
+        vertical_descent,
+        vertical_leading,
+        cap_height,
+        x_height,
+        average_width,
+        max_width,
+        underline_offset,
+        strikeout_offset,
+        stroke_size,
+    }
+}
+
+fn list(m: suolluvik::Metrics) -> Measures {
+    [
+        m.ascent,
+        m.descent,
+        m.leading,
+        m.vertical_ascent,
+        m.vertical_descent,
+        m.vertical_leading,
+        m.cap_height,
+        m.x_height,
+        m.average_width,
+        m.max_width,
+        m.underline_offset,
+        m.strikeout_offset,
+        m.stroke_size,
+    ]
 }
 
 fn scale_text(scale: Scale) -> String {

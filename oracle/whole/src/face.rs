@@ -21,6 +21,12 @@ impl<'a> Face<'a> {
         Some(Face { font, index })
     }
 
+    /// The face of a copy, whose directory is at the same place.
+    pub fn copied<'b>(&self, copy: &'b [u8]) -> Option<Face<'b>> {
+        let font = FontRef::from_offset(copy, self.font.offset)?;
+        Some(Face { font, ..*self })
+    }
+
     pub fn has(&self, tag: &[u8; 4]) -> bool {
         self.font.table(tag_from_bytes(tag)).is_some()
     }

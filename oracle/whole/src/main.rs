@@ -5,6 +5,7 @@
 mod axes;
 mod face;
 mod files;
+mod filled;
 mod lines;
 mod made;
 mod maps;
@@ -52,17 +53,12 @@ fn file(lines: &mut Lines, folder: &Path, path: &Path, rounds: u64, seed: u64) -
         lines.put("face", &face.words());
         let random = &mut Random::new(seed_of(SEED, &name, index, 0));
         axes::ask(lines, &face, random);
-        metrics::ask(lines, &face, random);
-        let whole = data.len();
+        metrics::ask(lines, &face, metrics::PAIRS, random);
+        filled::ask(lines, &face, random);
         for round in 0..rounds {
             let random = &mut Random::new(seed_of(seed, &name, index, round));
-            if !maps::damage(lines, &mut data, index, random) {
-                break;
-            }
-            data.truncate(whole);
+            maps::damage(lines, &mut data, index, random);
         }
-        // the last round's directory
-        data = fs::read(path)?;
     }
     Ok(())
 }

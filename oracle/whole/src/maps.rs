@@ -167,10 +167,10 @@ fn ask(lines: &mut Lines, face: &Face, map: impl Fn(usize) -> Option<Vec<Pair>>,
 }
 
 /// Damages the avar of a face, which then stands behind the font's bytes, and asks; not where there is none.
-pub fn damage(lines: &mut Lines, data: &mut Vec<u8>, index: usize, random: &mut Random) -> bool {
+pub fn damage(lines: &mut Lines, data: &mut Vec<u8>, index: usize, random: &mut Random) {
     let found = Face::at(data, index).and_then(|face| Some((face, record(&face.font, b"avar")?)));
-    let Some((face, p)) = found else { return false };
-    let Some(avar) = Avar::read(face.table(b"avar")) else { return false };
+    let Some((face, p)) = found else { return };
+    let Some(avar) = Avar::read(face.table(b"avar")) else { return };
     let bytes = damaged(&avar, random);
     let before: [u8; 8] = data[p + 8..p + 16].try_into().unwrap();
     let whole = data.len();
@@ -185,5 +185,4 @@ pub fn damage(lines: &mut Lines, data: &mut Vec<u8>, index: usize, random: &mut 
     }
     data.truncate(whole);
     data[p + 8..p + 16].copy_from_slice(&before);
-    true
 }

@@ -7,9 +7,9 @@ use crate::random::Random;
 use crate::text::{float_text, list_text, EMPTY};
 use swash::{FontRef, GlyphMetrics, Metrics};
 
-/// So many pairs of a glyph and a coordinate list are asked for of each face; but each list that is taken
-/// is asked for at every glyph.
-const PAIRS: usize = 200_000;
+/// So many pairs of a glyph and a coordinate list are asked for of a face; but each list that is taken is
+/// asked for at every glyph, and three are.
+pub const PAIRS: usize = 60_000;
 
 /// How what is asked is scaled.
 #[derive(Clone, Copy)]
@@ -82,21 +82,21 @@ fn measures_text(m: Metrics) -> String {
     list_text(list.into_iter().map(float_text))
 }
 
-pub fn ask(lines: &mut Lines, face: &Face, random: &mut Random) {
+pub fn ask(lines: &mut Lines, face: &Face, pairs: usize, random: &mut Random) {
     let copy = face::unvaried(face);
-    let Some(unvaried) = Face::at(&copy, face.index) else { return };
+    let Some(unvaried) = face.copied(&copy) else { return };
     let lists = lists(face.font, random);
     measures(lines, face.font, unvaried.font, &lists);
-    let count = face.font.metrics(&[]).glyph_count;
+    let glyphs = glyphs(face);
     vertical(lines, face, unvaried.font);
-    glyphs(lines, &unvaried, count);
-    let most = (PAIRS / (count as usize).max(1)).max(4);
+    numbers(lines, &unvaried, &glyphs);
+    let most = (pairs / glyphs.len().max(1)).max(3);
     if most < lists.len() {
         let name = format!("{} of {} lists", lists.len() - most, lists.len());
         lines.put("lists left out", &[name]);
     }
     for (k, list) in lists.iter().take(most).enumerate() {
-        at(lines, face.font, list, SCALES[k % SCALES.len()], count);
+        at(lines, face.font, list, SCALES[k % SCALES.len()], &glyphs);
     }
 }
 
@@ -131,26 +131,43 @@ fn vertical(lines: &mut Lines, face: &Face, unvaried: FontRef) {
     lines.put("vertical", &[&words[..], &floats.map(float_text)].concat());
 }
 
+/// Whether swash has a glyph's vertical origin from its yMax.
+fn by_glyf(face: &Face) -> bool {
+    face.font.glyph_metrics(&[]).has_vertical_metrics() && !face.has(b"VORG")
+}
+
+/// Each glyph, one past the last, and the last of all numbers. With glyf none past the last: vmtx ends before
+/// it, and its yMax would not be found (see below).
+fn glyphs(face: &Face) -> Vec<u16> {
+    let count = face.font.metrics(&[]).glyph_count;
+    let mut glyphs: Vec<u16> = (0..count).collect();
+    if !by_glyf(face) {
+        glyphs.extend((count < 65535).then_some(count));
+        glyphs.push(65535);
+    }
+    glyphs
+}
+
 /// The five unvaried numbers of each glyph. A bearing of 257 for all glyphs shows swash's yMax, and whether it
 /// has one: its origin is yMax + 257, and at scale 2 twice yMax and four times 257, since the bearing is
 /// scaled twice; without a yMax it is just twice as much.
-fn glyphs(lines: &mut Lines, unvaried: &Face, count: u16) {
+fn numbers(lines: &mut Lines, unvaried: &Face, glyphs: &[u16]) {
     let metrics = unvaried.font.glyph_metrics(&[]);
     let mut other = unvaried.font.data.to_vec();
     let (start, length) = face::place(&unvaried.font, b"vmtx");
     other[start..start + length].fill(1);
-    let Some(other) = Face::at(&other, unvaried.index) else { return };
+    let Some(other) = unvaried.copied(&other) else { return };
     let other = other.font.glyph_metrics(&[]);
     let synthesized = !metrics.has_vertical_metrics();
-    let by_vorg = unvaried.has(b"VORG");
+    let by_glyf = by_glyf(unvaried);
     let y = |glyph| {
         let [once, twice] = [1., 2.].map(|scale| other.linear_scale(scale).vertical_origin(glyph));
-        match by_vorg {
-            true => Some(metrics.vertical_origin(glyph)),
-            false => (twice != 2. * once).then_some(once - 257.),
+        match by_glyf {
+            true => (twice != 2. * once).then_some(once - 257.),
+            false => Some(metrics.vertical_origin(glyph)),
         }
     };
-    for glyph in asked_for(count) {
+    for &glyph in glyphs {
         let answer = asked(|| {
             let vertical = match synthesized {
                 // its floats are the font's and no glyph's
@@ -165,27 +182,19 @@ fn glyphs(lines: &mut Lines, unvaried: &Face, count: u16) {
     }
 }
 
-/// Each glyph, one past the last, and the last of all numbers.
-fn asked_for(count: u16) -> impl Iterator<Item = u16> {
-    (0..=count).chain((count < 65535).then_some(65535))
-}
-
-fn at(lines: &mut Lines, font: FontRef, list: &[i16], scale: Scale, count: u16) {
+fn at(lines: &mut Lines, font: FontRef, list: &[i16], scale: Scale, glyphs: &[u16]) {
     let words = [coords_text(list.iter().copied())];
     lines.put("at", &[&words[..], &scale.words()].concat());
     let metrics = scale.glyphs(font.glyph_metrics(list));
-    for glyph in asked_for(count) {
-        let answer = asked(|| {
-            let floats = [
-                metrics.advance_width(glyph),
-                metrics.lsb(glyph),
-                metrics.advance_height(glyph),
-                metrics.tsb(glyph),
-                metrics.vertical_origin(glyph),
-            ];
-            floats.map(float_text).join(",")
-        });
-        lines.put("metrics", &[glyph.to_string(), answer]);
+    for &glyph in glyphs {
+        let answers = [
+            asked(|| float_text(metrics.advance_width(glyph))),
+            asked(|| float_text(metrics.lsb(glyph))),
+            asked(|| float_text(metrics.advance_height(glyph))),
+            asked(|| float_text(metrics.tsb(glyph))),
+            asked(|| float_text(metrics.vertical_origin(glyph))),
+        ];
+        lines.put("metrics", &[glyph.to_string(), answers.join(",")]);
     }
 }
 

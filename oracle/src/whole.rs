@@ -70,7 +70,7 @@ impl Reader {
     fn line(&mut self, line: &str) -> Wrong<()> {
         let words: Vec<&str> = line.split('\t').collect();
         match (words[0], &words[1..]) {
-            ("left out", [why, path]) => println!("left out, {}: {}", why, path),
+            ("left out", [path, why]) => println!("left out: {}: {}", font::shown(&font::path(path)?), why),
             ("lists left out", [count]) => {
                 if self.font.phase == Phase::AsItIs {
                     println!("{}: {} left out at its glyphs", self.font.title(), count);

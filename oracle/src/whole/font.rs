@@ -3,8 +3,10 @@
 use crate::axes::rules::Avar;
 use crate::text::bytes;
 use crate::Wrong;
+use std::ffi::OsString;
 use std::fs;
-use std::path::Path;
+use std::os::unix::ffi::OsStringExt;
+use std::path::{Path, PathBuf};
 
 #[derive(Clone, Copy, PartialEq, Eq, PartialOrd, Ord)]
 pub enum Phase {
@@ -49,15 +51,28 @@ fn hex(word: &str) -> Wrong<Vec<u8>> {
     bytes(word).ok_or_else(|| "these are no bytes".to_string())
 }
 
+/// A path goes through the lines as bytes: it may hold any.
+pub fn path(word: &str) -> Wrong<PathBuf> {
+    hex(word).map(|bytes| PathBuf::from(OsString::from_vec(bytes)))
+}
+
+/// Quoted and with escapes where it could break a line.
+pub fn shown(path: &Path) -> String {
+    match path.to_str() {
+        Some(text) if !text.chars().any(char::is_control) => text.to_string(),
+        _ => format!("{:?}", path),
+    }
+}
+
 impl Font {
-    pub fn read(path: &str, below: &str) -> Wrong<Font> {
-        let data = fs::read(path).map_err(|why| why.to_string())?;
-        let row = Path::new(below).parent().map_or(String::new(), |p| p.display().to_string());
+    pub fn read(file: &str, below: &str) -> Wrong<Font> {
+        let data = fs::read(path(file)?).map_err(|why| why.to_string())?;
+        let below = path(below)?;
         Ok(Font {
             whole: data.len(),
             data,
-            row,
-            name: below.to_string(),
+            row: below.parent().map_or(String::new(), shown),
+            name: shown(&below),
             ..Font::default()
         })
     }

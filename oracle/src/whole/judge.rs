@@ -203,9 +203,9 @@ impl Judge {
         whys: &[Option<Why>],
     ) {
         if self.loud {
-            let texts = [rust_text(&rust), answer_text(&ours)];
-            let why = whys[0].map_or("", |why| WHYS[why as usize]);
-            println!("{}: {}: swash {}, ours {}{}{}", self.input, arguments(), texts[0], texts[1], if why.is_empty() { "" } else { "; " }, why);
+            let why = whys[0].map_or(String::new(), |why| format!(" ({})", WHYS[why as usize]));
+            let (theirs, ours) = (rust_text(&rust), answer_text(&ours));
+            println!("{}, {}: swash {}, ours {}{}", self.input, arguments(), theirs, ours, why);
         }
         let (theirs, said) = match (&rust, &rule) {
             (Rust::Answer(theirs), Ok(said)) if theirs.len() == said.len() && said.len() == whys.len() => (theirs, said),

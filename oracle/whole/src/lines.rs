@@ -46,9 +46,9 @@ impl Lines {
     }
 
     /// Without this line the reader knows that something is missing.
-    pub fn end(mut self) -> io::Result<()> {
+    pub fn end(&mut self) -> io::Result<()> {
         self.put("end", &[]);
-        match self.error {
+        match self.error.take() {
             Some(why) => Err(why),
             None => self.out.flush(),
         }

@@ -1,5 +1,5 @@
 //! Maps made by hand: the smallest ones on which swash and document 01 differ, and their neighbours. The
-//! font has one axis, from -1 over 0 to 1, so that a value is its own coordinate.
+//! font has one axis: from -1 over 0 to 1, so that a value is its own coordinate, or Karla's.
 
 use crate::axes;
 use crate::face::Face;
@@ -29,18 +29,31 @@ const MAPS: [(&str, &[Pair], &[i16]); 13] = [
     ("no pair", &[], &[-ONE, 0, HALF]),
 ];
 
-fn fvar() -> Vec<u8> {
+/// Whole numbers: min, default, max.
+type Axis = [i32; 3];
+
+const UNIT: Axis = [-1, 0, 1];
+const KARLA: Axis = [200, 400, 800];
+
+/// Karla's map, with one pair instead of all, with another first pair instead of two, without its last pair.
+const KARLA_MAPS: [(&str, &[Pair], f32); 3] = [
+    ("Karla's axis, one pair", &[[0, QUARTER]], 431.),
+    ("Karla's, another first pair", &[[-HALF, -QUARTER], [0, 0], [4096, 3397], [12288, 7992], [ONE, ONE]], 201.),
+    ("Karla's, the last pair dropped", &[[-ONE, -ONE], [-HALF, -7992], [0, 0], [4096, 3397], [12288, 7992]], 749.),
+];
+
+fn fvar(axis: Axis) -> Vec<u8> {
     let header: [u16; 8] = [1, 0, 16, 2, 1, 20, 0, 8];
-    let axis: [i32; 4] = [i32::from_be_bytes(*b"made"), -65536, 0, 65536];
     let mut fvar: Vec<u8> = header.into_iter().flat_map(u16::to_be_bytes).collect();
-    fvar.extend(axis.into_iter().flat_map(i32::to_be_bytes));
+    fvar.extend(b"wght");
+    fvar.extend(axis.into_iter().flat_map(|n| (n << 16).to_be_bytes()));
     fvar.extend([0, 0, 1, 0]);
     fvar
 }
 
 /// A font of nothing but fvar and avar, which ends the font.
-fn font(avar: &[u8]) -> Vec<u8> {
-    let fvar = fvar();
+fn font(axis: Axis, avar: &[u8]) -> Vec<u8> {
+    let fvar = fvar(axis);
     let mut font = vec![0, 1, 0, 0, 0, 2, 0, 0, 0, 0, 0, 0];
     let start = font.len() + 2 * 16;
     for (tag, start, length) in [(b"avar", start + fvar.len(), avar.len()), (b"fvar", start, fvar.len())] {
@@ -60,27 +73,35 @@ fn exactly(value: i16) -> f32 {
     (if value < 0 { fixed - 0.5 } else { fixed }) / 65536.
 }
 
-fn one(lines: &mut Lines, what: &str, avar: &[u8], values: &[i16]) {
-    let data = font(avar);
+fn one(lines: &mut Lines, what: &str, axis: Axis, avar: &[u8], values: &[f32]) {
+    let data = font(axis, avar);
     let Some(face) = Face::at(&data, 0) else { return };
     lines.put("bytes", &[bytes_text(data.iter().copied()), what.to_string(), bytes_text(avar.iter().copied())]);
     lines.put("face", &face.words());
     for axis in face.font.variations() {
         for value in values {
-            axes::normalize(lines, &axis, exactly(*value));
+            axes::normalize(lines, &axis, *value);
         }
     }
 }
 
+fn avar(count: u16, pairs: &[Pair]) -> Vec<u8> {
+    let maps = vec![pairs.to_vec()];
+    Avar { header: [0, 1, 0, 0, 0, 0], count, maps }.bytes()
+}
+
 pub fn ask() -> io::Result<()> {
-    let mut lines = Lines::new();
-    let avar = |count, pairs: &[Pair]| Avar { header: [0, 1, 0, 0, 0, 0], count, maps: vec![pairs.to_vec()] };
+    let lines = &mut Lines::new();
+    let all = |values: &[i16]| values.iter().map(|value| exactly(*value)).collect::<Vec<f32>>();
     for (what, pairs, values) in MAPS {
-        one(&mut lines, what, &avar(1, pairs).bytes(), values);
+        one(lines, what, UNIT, &avar(1, pairs), &all(values));
     }
     let (_, pairs, values) = MAPS[1];
-    one(&mut lines, "an axis past the count", &avar(0, pairs).bytes(), values);
-    let whole = avar(1, pairs).bytes();
-    one(&mut lines, "a map whose last pair is cut", &whole[..whole.len() - 1], values);
+    one(lines, "an axis past the count", UNIT, &avar(0, pairs), &all(values));
+    let whole = avar(1, pairs);
+    one(lines, "a map whose last pair is cut", UNIT, &whole[..whole.len() - 1], &all(values));
+    for (what, pairs, value) in KARLA_MAPS {
+        one(lines, what, KARLA, &avar(1, pairs), &[value]);
+    }
     lines.end()
 }

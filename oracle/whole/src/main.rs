@@ -22,6 +22,7 @@ use lines::Lines;
 use random::Random;
 use std::fs;
 use std::io;
+use std::os::unix::ffi::OsStrExt;
 use std::path::Path;
 use std::process::ExitCode;
 use swash::FontDataRef;
@@ -42,14 +43,22 @@ fn seed_of(seed: u64, name: &str, face: usize, round: u64) -> u64 {
     name.bytes().fold(start, mix).wrapping_add(face as u64)
 }
 
+/// A path's bytes, whatever they are.
+fn path_text(path: &Path) -> String {
+    text::bytes_text(path.as_os_str().as_bytes().iter().copied())
+}
+
 fn file(lines: &mut Lines, folder: &Path, path: &Path, rounds: u64, seed: u64) -> io::Result<()> {
     let mut data = fs::read(path)?;
     let below = path.strip_prefix(folder).unwrap_or(path);
     let name = path.file_name().map_or(String::new(), |n| n.to_string_lossy().to_string());
-    lines.put("file", &[path.display().to_string(), below.display().to_string()]);
+    lines.put("file", &[path_text(path), path_text(below)]);
     let count = FontDataRef::new(&data).map_or(0, |font| font.len());
     for index in 0..count {
-        let Some(face) = Face::at(&data, index) else { continue };
+        let Some(face) = Face::at(&data, index) else {
+            lines.put("left out", &[path_text(path), format!("face {index}, which swash can't open")]);
+            continue;
+        };
         lines.put("face", &face.words());
         let random = &mut Random::new(seed_of(SEED, &name, index, 0));
         axes::ask(lines, &face, random);
@@ -69,13 +78,11 @@ fn fonts(folder: &Path, rounds: u64, seed: u64) -> io::Result<()> {
         return Err(io::Error::other("no font below it"));
     }
     let mut lines = Lines::new();
-    for (why, paths) in [("larger than 32 MiB", &files.large), ("packed as WOFF", &files.packed)] {
-        for path in paths {
-            lines.put("left out", &[why.to_string(), path.display().to_string()]);
-        }
+    for (path, why) in &files.left {
+        lines.put("left out", &[path_text(path), why.clone()]);
     }
     for (k, path) in files.fonts.iter().enumerate() {
-        eprintln!("swash: file {} of {}, {}", k + 1, files.fonts.len(), path.display());
+        eprintln!("swash: file {} of {}, {:?}", k + 1, files.fonts.len(), path);
         file(&mut lines, folder, path, rounds, seed)?;
     }
     lines.end()

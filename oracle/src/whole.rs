@@ -70,7 +70,9 @@ impl Reader {
     fn line(&mut self, line: &str) -> Wrong<()> {
         let words: Vec<&str> = line.split('\t').collect();
         match (words[0], &words[1..]) {
-            ("left out", [path, why]) => println!("left out: {}: {}", font::shown(&font::path(path)?), why),
+            ("left out", [path, why]) => {
+                println!("left out: {}: {}", font::shown(&font::path(path)?), why)
+            }
             ("lists left out", [count]) => {
                 if self.font.phase == Phase::AsItIs {
                     println!("{}: {} left out at its glyphs", self.font.title(), count);
@@ -166,6 +168,9 @@ fn main() -> ExitCode {
 /// For the tables: each state of a font is counted apart.
 const PHASES: [(Phase, &str); 3] = [
     (Phase::AsItIs, "The fonts as they are"),
-    (Phase::Filled, "The fonts filled: maps of bearings, MVAR's indices as swash takes them, vertical metrics"),
+    (
+        Phase::Filled,
+        "The fonts filled: maps of bearings, MVAR's indices as swash takes them, vertical metrics",
+    ),
     (Phase::Damaged, "With avar damaged"),
 ];

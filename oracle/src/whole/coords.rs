@@ -21,10 +21,19 @@ pub fn line(judge: &mut Judge, font: &Font, kind: &str, words: &[&str]) -> Optio
         ("axis", [index, answer]) => axis(judge, font, index.parse().ok()?, answer),
         ("tag", [tag, answer]) => axis_by_tag(judge, font, text::bits(tag)?, answer),
         ("instance", [index, answer]) => instance(judge, font, index.parse().ok()?, answer),
-        ("instance_coords", [index, answer]) => instance_coords(judge, font, index.parse().ok()?, rust_coords(answer)?),
+        ("instance_coords", [index, answer]) => {
+            instance_coords(judge, font, index.parse().ok()?, rust_coords(answer)?)
+        }
         ("normalize", [index, tag, value, answer]) => {
             let value = f32::from_bits(text::bits(value)?);
-            normalize(judge, font, index.parse().ok()?, text::bits(tag)?, value, rust_coords(answer)?)
+            normalize(
+                judge,
+                font,
+                index.parse().ok()?,
+                text::bits(tag)?,
+                value,
+                rust_coords(answer)?,
+            )
         }
         ("coords", [tags, values, answer]) => {
             let values: Vec<f32> = list(values)?.into_iter().map(f32::from_bits).collect();
@@ -54,47 +63,96 @@ fn rust_coords(answer: &str) -> Option<Rust<Vec<i16>>> {
 
 fn counts(judge: &mut Judge, font: &Font, answer: &str) {
     let table = font.table();
-    let ours = format!("{},{}", suolluvik::axis_count(table), suolluvik::instance_count(table));
+    let ours = format!(
+        "{},{}",
+        suolluvik::axis_count(table),
+        suolluvik::instance_count(table)
+    );
     let header = rules::header(table);
     let rule = format!("{},{}", header.axis_count, header.instance_count);
-    judge.judge(Function::Counts, || "the two counts".to_string(), rust_text(answer), Ok(ours), Ok(rule), false);
+    judge.judge(
+        Function::Counts,
+        || "the two counts".to_string(),
+        rust_text(answer),
+        Ok(ours),
+        Ok(rule),
+        false,
+    );
 }
 
 /// Index, tag, name id, whether it is hidden, min, default and max as the bits of floats.
 fn axis_text(index: usize, tag: u32, name_id: u16, hidden: bool, bits: [u32; 3]) -> String {
     let floats = bits.map(|bits| format!("{:08x}", bits)).join(",");
-    format!("{},{:08x},{},{},{}", index, tag, name_id, hidden as u8, floats)
+    format!(
+        "{},{:08x},{},{},{}",
+        index, tag, name_id, hidden as u8, floats
+    )
 }
 
 fn our_axis(axis: Result<suolluvik::Axis, Refusal>) -> Answer<String> {
     let axis = axis.map_err(Refusal::number)?;
     let floats = [axis.min_value(), axis.default_value(), axis.max_value()];
     let hidden = axis.is_hidden();
-    Ok(axis_text(axis.index.into(), axis.tag, axis.name_id, hidden, floats.map(f32::to_bits)))
+    Ok(axis_text(
+        axis.index.into(),
+        axis.tag,
+        axis.name_id,
+        hidden,
+        floats.map(f32::to_bits),
+    ))
 }
 
 fn rule_axis(axis: Answer<Axis>) -> Answer<String> {
     let axis = axis?;
     let bits = [axis.min, axis.default, axis.max].map(to_f32);
-    Ok(axis_text(axis.index, axis.tag, axis.name_id as u16, axis.flags % 2 == 1, bits))
+    Ok(axis_text(
+        axis.index,
+        axis.tag,
+        axis.name_id as u16,
+        axis.flags % 2 == 1,
+        bits,
+    ))
 }
 
 fn axis(judge: &mut Judge, font: &Font, index: u16, answer: &str) {
     let ours = our_axis(suolluvik::axis(font.table(), index));
     let rule = rule_axis(rules::axis(font.table(), index.into()));
-    judge.judge(Function::Axis, || format!("index {}", index), rust_text(answer), ours, rule, false);
+    judge.judge(
+        Function::Axis,
+        || format!("index {}", index),
+        rust_text(answer),
+        ours,
+        rule,
+        false,
+    );
 }
 
 fn axis_by_tag(judge: &mut Judge, font: &Font, tag: u32, answer: &str) {
     let ours = our_axis(suolluvik::axis_by_tag(font.table(), tag));
     let rule = rule_axis(rules::axis_by_tag(font.table(), tag));
-    judge.judge(Function::AxisByTag, || format!("tag {:08x}", tag), rust_text(answer), ours, rule, false);
+    judge.judge(
+        Function::AxisByTag,
+        || format!("tag {:08x}", tag),
+        rust_text(answer),
+        ours,
+        rule,
+        false,
+    );
 }
 
 /// Both name ids, then the values as the bits of floats.
-fn instance_text(name_id: u16, postscript: Option<u16>, values: impl Iterator<Item = u32>) -> String {
+fn instance_text(
+    name_id: u16,
+    postscript: Option<u16>,
+    values: impl Iterator<Item = u32>,
+) -> String {
     let postscript = postscript.map_or(EMPTY.to_string(), |id| id.to_string());
-    format!("{};{};{}", name_id, postscript, list_text(values.map(|bits| format!("{:08x}", bits))))
+    format!(
+        "{};{};{}",
+        name_id,
+        postscript,
+        list_text(values.map(|bits| format!("{:08x}", bits)))
+    )
 }
 
 fn our_instance(table: &[u8], index: u16) -> Result<String, Refusal> {
@@ -102,14 +160,22 @@ fn our_instance(table: &[u8], index: u16) -> Result<String, Refusal> {
     let mut values = vec![0.; suolluvik::axis_count(table).into()];
     suolluvik::instance_floats(table, index, &mut values)?;
     let values = values.into_iter().map(f32::to_bits);
-    Ok(instance_text(instance.name_id, instance.postscript_name_id, values))
+    Ok(instance_text(
+        instance.name_id,
+        instance.postscript_name_id,
+        values,
+    ))
 }
 
 fn rule_instance(table: &[u8], index: usize) -> Answer<String> {
     let instance = rules::instance(table, index)?;
     let values = rules::instance_values(table, index, usize::MAX)?;
     let postscript = instance.postscript_name_id.map(|id| id as u16);
-    Ok(instance_text(instance.name_id as u16, postscript, values.into_iter().map(to_f32)))
+    Ok(instance_text(
+        instance.name_id as u16,
+        postscript,
+        values.into_iter().map(to_f32),
+    ))
 }
 
 fn instance(judge: &mut Judge, font: &Font, index: u16, answer: &str) {
@@ -118,7 +184,14 @@ fn instance(judge: &mut Judge, font: &Font, index: u16, answer: &str) {
     let rule = rule_instance(table, index.into());
     let few_left = rules::few_left(table, index.into());
     let arguments = || format!("index {}", index);
-    judge.judge(Function::Instance, arguments, rust_text(answer), ours, rule, few_left);
+    judge.judge(
+        Function::Instance,
+        arguments,
+        rust_text(answer),
+        ours,
+        rule,
+        few_left,
+    );
 }
 
 /// The list that was written; a refusal must leave it.
@@ -145,10 +218,19 @@ fn instance_coords(judge: &mut Judge, font: &Font, index: u16, rust: Rust<Vec<i1
     let ours = suolluvik::instance_coords(table, &font.data, font.avar, index, &mut list);
     let rule = rules::instance_coords(table, font.rule_avar(), index.into(), usize::MAX);
     let values = rules::instance_values(table, index.into(), usize::MAX).unwrap_or_default();
-    let why = |(i, value): (usize, &i128)| why_at(font, &rules::axis(table, i).unwrap_or_default(), *value);
+    let why = |(i, value): (usize, &i128)| {
+        why_at(font, &rules::axis(table, i).unwrap_or_default(), *value)
+    };
     let whys: Vec<Option<Why>> = values.iter().enumerate().map(why).collect();
     let arguments = || format!("index {}", index);
-    judge.coords(Function::InstanceCoords, arguments, rust, written(ours, list), narrow(rule), &whys);
+    judge.coords(
+        Function::InstanceCoords,
+        arguments,
+        rust,
+        written(ours, list),
+        narrow(rule),
+        &whys,
+    );
 }
 
 fn our_settings(font: &Font, tags: &[u32], values: &[f32]) -> Answer<Vec<i16>> {
@@ -159,14 +241,28 @@ fn our_settings(font: &Font, tags: &[u32], values: &[f32]) -> Answer<Vec<i16>> {
 }
 
 /// One value of one axis, against swash's `Variation::normalize`.
-fn normalize(judge: &mut Judge, font: &Font, index: usize, tag: u32, value: f32, rust: Rust<Vec<i16>>) {
+fn normalize(
+    judge: &mut Judge,
+    font: &Font,
+    index: usize,
+    tag: u32,
+    value: f32,
+    rust: Rust<Vec<i16>>,
+) {
     let ours = our_settings(font, &[tag], &[value]).map(|list| vec![list[index]]);
     let axis = rules::axis(font.table(), index).unwrap_or_default();
     let fixed = from_f32(value.to_bits()) as i128;
     let rule = rules::normalise(&axis, font.rule_avar(), fixed).map(|coord| vec![coord]);
     let arguments = || format!("axis {}, value {:?}", index, value);
     let why = why_at(font, &axis, fixed);
-    judge.coords(Function::NormalizedCoord, arguments, rust, ours, narrow(rule), &[why]);
+    judge.coords(
+        Function::NormalizedCoord,
+        arguments,
+        rust,
+        ours,
+        narrow(rule),
+        &[why],
+    );
 }
 
 fn settings(judge: &mut Judge, font: &Font, tags: &[u32], values: &[f32], rust: Rust<Vec<i16>>) {
@@ -180,7 +276,16 @@ fn settings(judge: &mut Judge, font: &Font, tags: &[u32], values: &[f32], rust: 
         let set = tags.iter().rposition(|tag| *tag == axis.tag)?;
         why_at(font, &axis, from_f32(bits[set]) as i128)
     };
-    let whys: Vec<Option<Why>> = (0..rules::header(table).axis_count.min(MOST)).map(why).collect();
+    let whys: Vec<Option<Why>> = (0..rules::header(table).axis_count.min(MOST))
+        .map(why)
+        .collect();
     let arguments = || format!("tags {:08x?}, values {:?}", tags, values);
-    judge.coords(Function::NormalizedCoords, arguments, rust, ours, narrow(rule), &whys);
+    judge.coords(
+        Function::NormalizedCoords,
+        arguments,
+        rust,
+        ours,
+        narrow(rule),
+        &whys,
+    );
 }

@@ -32,7 +32,10 @@ pub fn why(avar: Avar, axis: usize, value: i128) -> Option<Why> {
     if avar.offset != 0 && count.map_or(false, |count| axis as i128 >= count) {
         return Some(Why::Past);
     }
-    let froms: Vec<i128> = pairs(avar, axis)?.into_iter().map(|(from, _)| from).collect();
+    let froms: Vec<i128> = pairs(avar, axis)?
+        .into_iter()
+        .map(|(from, _)| from)
+        .collect();
     match froms.iter().position(|from| *from == value) {
         Some(k) => {
             let late = froms[..k].iter().any(|from| *from > value);

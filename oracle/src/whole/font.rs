@@ -141,7 +141,12 @@ impl Font {
         self.data.extend(hex(behind)?);
         self.phase = Phase::Filled;
         let more = self.data.len() - self.whole;
-        self.done = format!(", filled: VVAR at {}, {} bytes more, set {}", vvar, more, changes.join(" "));
+        self.done = format!(
+            ", filled: VVAR at {}, {} bytes more, set {}",
+            vvar,
+            more,
+            changes.join(" ")
+        );
         Ok(())
     }
 

@@ -162,7 +162,10 @@ impl Judge {
         }
         println!("difference: {}", self.input);
         println!("    {}, {}", FUNCTIONS[function as usize], arguments);
-        println!("    ours {}; the Rust {}; the rules {}", texts[0], texts[1], texts[2]);
+        println!(
+            "    ours {}; the Rust {}; the rules {}",
+            texts[0], texts[1], texts[2]
+        );
     }
 
     /// One case. By the rules an answer is the Rust's, `None` is one of 1 to 4, a stop is 5, or 2 where
@@ -181,7 +184,10 @@ impl Judge {
         let (count, fits) = match &rust {
             Rust::Answer(answer) => (&mut tally.equal, rule.as_ref() == Ok(answer)),
             Rust::None => (&mut tally.none, matches!(rule, Err(1..=4))),
-            Rust::Stops => (&mut tally.stops, rule == Err(5) || (rule == Err(2) && few_left)),
+            Rust::Stops => (
+                &mut tally.stops,
+                rule == Err(5) || (rule == Err(2) && few_left),
+            ),
         };
         if fits && ours == rule {
             *count += 1;
@@ -205,14 +211,28 @@ impl Judge {
         if self.loud {
             let why = whys[0].map_or(String::new(), |why| format!(" ({})", WHYS[why as usize]));
             let (theirs, ours) = (rust_text(&rust), answer_text(&ours));
-            println!("{}, {}: swash {}, ours {}{}", self.input, arguments(), theirs, ours, why);
+            println!(
+                "{}, {}: swash {}, ours {}{}",
+                self.input,
+                arguments(),
+                theirs,
+                ours,
+                why
+            );
         }
         let (theirs, said) = match (&rust, &rule) {
-            (Rust::Answer(theirs), Ok(said)) if theirs.len() == said.len() && said.len() == whys.len() => (theirs, said),
+            (Rust::Answer(theirs), Ok(said))
+                if theirs.len() == said.len() && said.len() == whys.len() =>
+            {
+                (theirs, said)
+            }
             _ => return self.judge(function, arguments, rust, ours, rule, false),
         };
         let apart: Vec<bool> = theirs.iter().zip(said).map(|(a, b)| a != b).collect();
-        let free = apart.iter().zip(whys).all(|(apart, why)| !apart || why.is_some());
+        let free = apart
+            .iter()
+            .zip(whys)
+            .all(|(apart, why)| !apart || why.is_some());
         if !free || ours != rule {
             let tally = &mut self.counts.functions[function as usize];
             tally.cases += 1;
@@ -266,5 +286,8 @@ impl Judge {
 
 /// By their bits, a NaN as a NaN.
 fn same(a: &[f32], b: &[f32]) -> bool {
-    a.len() == b.len() && a.iter().zip(b).all(|(a, b)| a.to_bits() == b.to_bits() || (a.is_nan() && b.is_nan()))
+    a.len() == b.len()
+        && a.iter()
+            .zip(b)
+            .all(|(a, b)| a.to_bits() == b.to_bits() || (a.is_nan() && b.is_nan()))
 }

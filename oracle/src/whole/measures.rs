@@ -85,7 +85,13 @@ fn unvaried(words: &str) -> Option<Unvaried> {
 
 impl Metrics {
     /// One line, if it is of this kind.
-    pub fn line(&mut self, judge: &mut Judge, font: &Font, kind: &str, words: &[&str]) -> Option<()> {
+    pub fn line(
+        &mut self,
+        judge: &mut Judge,
+        font: &Font,
+        kind: &str,
+        words: &[&str],
+    ) -> Option<()> {
         match (kind, words) {
             ("unvaried", [units, vertical, measures]) => {
                 self.units_per_em = units.parse().ok()?;
@@ -122,11 +128,19 @@ impl Metrics {
         Some(())
     }
 
-    fn measures_at(&self, judge: &mut Judge, font: &Font, coords: &[i16], scale: Scale, answer: &str) -> Option<()> {
+    fn measures_at(
+        &self,
+        judge: &mut Judge,
+        font: &Font,
+        coords: &[i16],
+        scale: Scale,
+        answer: &str,
+    ) -> Option<()> {
         let units = self.units_per_em;
         let mut ours = record(self.measures);
         // nothing here is refused
-        suolluvik::materialize_metrics(&font.data, font.mvar, coords, self.has_vertical, &mut ours).ok()?;
+        suolluvik::materialize_metrics(&font.data, font.mvar, coords, self.has_vertical, &mut ours)
+            .ok()?;
         let (function, factor) = match scale {
             Scale::Plain => (Function::Measures, 1.),
             Scale::Ppem(ppem) => {
@@ -147,7 +161,11 @@ impl Metrics {
             let rule = place.materialize(self.measures, font.mvar, self.has_vertical);
             (scaled(rule, factor).to_vec(), place.refused_by_5)
         };
-        let rust = if answer == "stops" { None } else { Some(floats(answer)?) };
+        let rust = if answer == "stops" {
+            None
+        } else {
+            Some(floats(answer)?)
+        };
         let arguments = || format!("coordinates {:?}, {}", coords, scale_text(scale));
         judge.floats(function, arguments, rust.as_deref(), &list(ours), rule);
         Some(())
@@ -192,7 +210,8 @@ impl Metrics {
             at.ours.lsb(data, glyph, coords, unvaried.lsb),
             at.ours.advance_height(data, glyph, coords, unvaried.height),
             at.ours.tsb(data, glyph, coords, unvaried.tsb),
-            at.ours.vertical_origin(data, glyph, coords, unvaried.tsb, unvaried.y),
+            at.ours
+                .vertical_origin(data, glyph, coords, unvaried.tsb, unvaried.y),
         ];
         let mut words = answer.split(',');
         for (k, ours) in ours.iter().enumerate() {
@@ -201,7 +220,15 @@ impl Metrics {
                 word => Some([float(word)?]),
             };
             let rule = || self.rule(font, at, glyph, unvaried, k);
-            let arguments = || format!("glyph {}, {:?}, coordinates {:?}, {}", glyph, unvaried, coords, scale_text(at.scale));
+            let arguments = || {
+                format!(
+                    "glyph {}, {:?}, coordinates {:?}, {}",
+                    glyph,
+                    unvaried,
+                    coords,
+                    scale_text(at.scale)
+                )
+            };
             let rust = rust.as_ref().map(|float| &float[..]);
             judge.floats(GLYPHS[k], arguments, rust, &[*ours], rule);
         }
@@ -209,7 +236,14 @@ impl Metrics {
     }
 
     /// What the rules say of one of the five, and whether a delta of it is refused by 5.
-    fn rule(&self, font: &Font, at: &At, glyph: u16, unvaried: Unvaried, k: usize) -> (Vec<f32>, bool) {
+    fn rule(
+        &self,
+        font: &Font,
+        at: &At,
+        glyph: u16,
+        unvaried: Unvaried,
+        k: usize,
+    ) -> (Vec<f32>, bool) {
         let mut place = Place {
             font: &font.data,
             coords: &at.coords,
@@ -217,8 +251,12 @@ impl Metrics {
         };
         let (vertical, scale, y) = (at.rule_vertical, at.rule_scale, unvaried.y);
         let value = match GLYPHS[k] {
-            Function::AdvanceWidth => place.varied(unvaried.width.into(), font.hvar, Map::Advance, glyph, scale),
-            Function::Lsb => place.varied(unvaried.lsb.into(), font.hvar, Map::Bearing, glyph, scale),
+            Function::AdvanceWidth => {
+                place.varied(unvaried.width.into(), font.hvar, Map::Advance, glyph, scale)
+            }
+            Function::Lsb => {
+                place.varied(unvaried.lsb.into(), font.hvar, Map::Bearing, glyph, scale)
+            }
             Function::AdvanceHeight => place.height(vertical, unvaried.height, glyph, scale),
             Function::Tsb => place.top(vertical, unvaried.tsb, glyph, scale),
             _ => {

@@ -87,9 +87,17 @@ impl Tables {
 
     pub fn print(&self) {
         let names = self.rows.keys().map(|(_, name)| name.len());
-        let longest = names.chain(FUNCTIONS.map(str::len)).chain(WHYS.map(str::len)).max().unwrap_or(0);
+        let longest = names
+            .chain(FUNCTIONS.map(str::len))
+            .chain(WHYS.map(str::len))
+            .max()
+            .unwrap_or(0);
         for (phase, title) in PHASES {
-            let rows: Vec<_> = self.rows.iter().filter(|((of, _), _)| *of == phase).collect();
+            let rows: Vec<_> = self
+                .rows
+                .iter()
+                .filter(|((of, _), _)| *of == phase)
+                .collect();
             if !rows.is_empty() {
                 println!("\n{}:\n", title);
                 print_phase(longest, &rows);
@@ -104,7 +112,11 @@ fn print_phase(longest: usize, rows: &[(&(Phase, String), &Row)]) {
     print_row(longest, "folder", &columns);
     let mut total = Row::default();
     for ((_, name), row) in rows {
-        print_row(longest, if name.is_empty() { "." } else { name }, &row.columns());
+        print_row(
+            longest,
+            if name.is_empty() { "." } else { name },
+            &row.columns(),
+        );
         total.add(row);
     }
     print_row(longest, "all", &total.columns());
@@ -120,7 +132,11 @@ fn print_phase(longest: usize, rows: &[(&(Phase, String), &Row)]) {
 
     if total.counts.whys.iter().any(|why| why[0] > 0) {
         println!();
-        print_row(longest, "coordinates where 01 may decide", &["coordinates", "equal", "01 decides"]);
+        print_row(
+            longest,
+            "coordinates where 01 may decide",
+            &["coordinates", "equal", "01 decides"],
+        );
         for (name, [all, equal]) in WHYS.iter().zip(&total.counts.whys) {
             print_row(longest, name, &[*all, *equal, all - equal]);
         }

@@ -83,7 +83,8 @@ pub fn instances(lines: &mut Lines, font: FontRef, most: usize) {
             })
         });
         lines.put("instance", &[index.to_string(), answer]);
-        let answer = asked(|| found().map_or("none".to_string(), |i| coords_text(i.normalized_coords())));
+        let answer =
+            asked(|| found().map_or("none".to_string(), |i| coords_text(i.normalized_coords())));
         lines.put("instance_coords", &[index.to_string(), answer]);
     }
 }
@@ -92,7 +93,10 @@ pub fn instances(lines: &mut Lines, font: FontRef, most: usize) {
 pub fn normalize(lines: &mut Lines, axis: &Variation, value: f32) {
     let answer = asked(|| axis.normalize(value).to_string());
     let tag = format!("{:08x}", axis.tag());
-    lines.put("normalize", &[axis.index().to_string(), tag, bits(value), answer]);
+    lines.put(
+        "normalize",
+        &[axis.index().to_string(), tag, bits(value), answer],
+    );
 }
 
 fn bits(value: f32) -> String {
@@ -102,7 +106,10 @@ fn bits(value: f32) -> String {
 /// The coordinates that settings give.
 pub fn coords(lines: &mut Lines, font: FontRef, settings: &[(Tag, f32)]) {
     let answer = asked(|| {
-        let settings = settings.iter().map(|(tag, value)| Setting { tag: *tag, value: *value });
+        let settings = settings.iter().map(|(tag, value)| Setting {
+            tag: *tag,
+            value: *value,
+        });
         coords_text(font.variations().normalized_coords(settings))
     });
     let tags = list_text(settings.iter().map(|(tag, _)| format!("{tag:08x}")));
@@ -145,7 +152,9 @@ pub fn within(axis: &Variation, random: &mut Random) -> f32 {
 
 /// None; all axes at their ends, at random; a tag twice, and one that no axis has.
 fn settings(axes: &[Variation], random: &mut Random) -> Vec<Vec<(Tag, f32)>> {
-    let all = |value: &dyn Fn(&Variation) -> f32| axes.iter().map(|axis| (axis.tag(), value(axis))).collect();
+    let all = |value: &dyn Fn(&Variation) -> f32| {
+        axes.iter().map(|axis| (axis.tag(), value(axis))).collect()
+    };
     let mut settings: Vec<Vec<(Tag, f32)>> = vec![
         vec![],
         vec![(UNKNOWN, 400.)],
@@ -154,11 +163,19 @@ fn settings(axes: &[Variation], random: &mut Random) -> Vec<Vec<(Tag, f32)>> {
         all(&|axis| axis.max_value()),
     ];
     for _ in 0..100 {
-        settings.push(axes.iter().map(|axis| (axis.tag(), within(axis, random))).collect());
+        settings.push(
+            axes.iter()
+                .map(|axis| (axis.tag(), within(axis, random)))
+                .collect(),
+        );
     }
     for axis in axes {
         let [first, second] = [within(axis, random), within(axis, random)];
-        settings.push(vec![(axis.tag(), first), (UNKNOWN, first), (axis.tag(), second)]);
+        settings.push(vec![
+            (axis.tag(), first),
+            (UNKNOWN, first),
+            (axis.tag(), second),
+        ]);
     }
     settings
 }

@@ -11,7 +11,10 @@ pub struct Face<'a> {
 /// Start and length of a table, both 0 where there is none.
 pub fn place(font: &FontRef, tag: &[u8; 4]) -> (usize, usize) {
     font.table(tag_from_bytes(tag)).map_or((0, 0), |table| {
-        (table.as_ptr() as usize - font.data.as_ptr() as usize, table.len())
+        (
+            table.as_ptr() as usize - font.data.as_ptr() as usize,
+            table.len(),
+        )
     })
 }
 

@@ -15,7 +15,8 @@ const PAIRS: usize = metrics::PAIRS / 3;
 type Change = (usize, Vec<u8>);
 
 fn u16_at(data: &[u8], p: usize) -> usize {
-    data.get(p..p + 2).map_or(0, |b| u16::from_be_bytes([b[0], b[1]]) as usize)
+    data.get(p..p + 2)
+        .map_or(0, |b| u16::from_be_bytes([b[0], b[1]]) as usize)
 }
 
 /// The map of advances for the bearings too.
@@ -32,7 +33,11 @@ fn maps(font: &FontRef, changes: &mut Vec<Change>) {
 /// them get other tags, in order as before.
 fn records(font: &FontRef, vertical: bool, changes: &mut Vec<Change>) {
     let (start, length) = place(font, b"MVAR");
-    let count = if length == 0 { 0 } else { u16_at(font.data, start + 8) };
+    let count = if length == 0 {
+        0
+    } else {
+        u16_at(font.data, start + 8)
+    };
     if count < 2 || length < 12 + 8 * count {
         return;
     }
@@ -52,7 +57,12 @@ fn records(font: &FontRef, vertical: bool, changes: &mut Vec<Change>) {
 fn directory(font: &FontRef) -> Option<Vec<u8>> {
     let start = font.offset as usize;
     let count = u16_at(font.data, start + 4);
-    let mut records: Vec<Vec<u8>> = font.data.get(start + 12..start + 12 + 16 * count)?.chunks(16).map(<[u8]>::to_vec).collect();
+    let mut records: Vec<Vec<u8>> = font
+        .data
+        .get(start + 12..start + 12 + 16 * count)?
+        .chunks(16)
+        .map(<[u8]>::to_vec)
+        .collect();
     for (tag, like) in [(b"VVAR", b"HVAR"), (b"vhea", b"hhea"), (b"vmtx", b"hmtx")] {
         let p = record(font, like)?;
         records.push([tag, &font.data[p + 4..p + 16]].concat());
@@ -66,15 +76,25 @@ fn directory(font: &FontRef) -> Option<Vec<u8>> {
 }
 
 /// A copy with these changes, and perhaps another directory behind it.
-fn one(lines: &mut Lines, face: &Face, changes: &[Change], behind: Option<Vec<u8>>, random: &mut Random) {
+fn one(
+    lines: &mut Lines,
+    face: &Face,
+    changes: &[Change],
+    behind: Option<Vec<u8>>,
+    random: &mut Random,
+) {
     let mut copy = face.font.data.to_vec();
     for (p, new) in changes {
         copy[*p..*p + new.len()].copy_from_slice(new);
     }
-    let offset = behind.as_ref().map_or(face.font.offset, |_| copy.len() as u32);
+    let offset = behind
+        .as_ref()
+        .map_or(face.font.offset, |_| copy.len() as u32);
     let behind = behind.unwrap_or_default();
     copy.extend(&behind);
-    let Some(font) = FontRef::from_offset(&copy, offset) else { return };
+    let Some(font) = FontRef::from_offset(&copy, offset) else {
+        return;
+    };
     let (vvar, _) = place(&font, b"VVAR");
     let mut words = vec![vvar.to_string(), bytes_text(behind.iter().copied())];
     for (p, new) in changes {
@@ -93,7 +113,11 @@ pub fn ask(lines: &mut Lines, face: &Face, random: &mut Random) {
         if changes.is_empty() || !suits {
             continue;
         }
-        let behind = if vertical { directory(&face.font) } else { None };
+        let behind = if vertical {
+            directory(&face.font)
+        } else {
+            None
+        };
         one(lines, face, &changes, behind, random);
     }
 }

@@ -40,7 +40,9 @@ impl Lines {
 
     pub fn put(&mut self, kind: &str, words: &[String]) {
         if self.error.is_none() {
-            let line = words.iter().fold(kind.to_string(), |line, word| line + "\t" + word);
+            let line = words
+                .iter()
+                .fold(kind.to_string(), |line, word| line + "\t" + word);
             self.error = writeln!(self.out, "{line}").err();
         }
     }

@@ -14,18 +14,75 @@ const QUARTER: i16 = 4096;
 
 /// What a map shows, its pairs, and the values that are asked for, in 2.14 too.
 const MAPS: [(&str, &[Pair], &[i16]); 13] = [
-    ("OpenType's three pairs", &[[-ONE, -ONE], [0, 0], [ONE, ONE]], &[-ONE, -HALF, 0, HALF, ONE]),
-    ("document 01's A1", &[[-ONE, -ONE], [0, 0], [HALF, QUARTER], [ONE, ONE]], &[QUARTER, HALF + QUARTER]),
+    (
+        "OpenType's three pairs",
+        &[[-ONE, -ONE], [0, 0], [ONE, ONE]],
+        &[-ONE, -HALF, 0, HALF, ONE],
+    ),
+    (
+        "document 01's A1",
+        &[[-ONE, -ONE], [0, 0], [HALF, QUARTER], [ONE, ONE]],
+        &[QUARTER, HALF + QUARTER],
+    ),
     ("one pair", &[[0, QUARTER]], &[-HALF, 0, HALF]),
-    ("before the first pair", &[[-HALF, -QUARTER], [0, 0], [ONE, ONE]], &[-ONE, -HALF - QUARTER, -HALF, -QUARTER]),
-    ("behind the last pair", &[[-ONE, -ONE], [0, 0], [HALF, QUARTER]], &[QUARTER, HALF, HALF + QUARTER, ONE]),
-    ("a from twice, below 0", &[[-ONE, -ONE], [-HALF, -HALF], [-HALF, 0], [0, 0], [ONE, ONE]], &[-HALF - QUARTER, -HALF, -QUARTER]),
-    ("a from twice, at 0", &[[-ONE, -ONE], [0, HALF], [0, 0], [ONE, ONE]], &[-HALF, 0, HALF]),
-    ("a from twice, above 0", &[[-ONE, -ONE], [0, 0], [HALF, QUARTER], [HALF, HALF], [ONE, ONE]], &[QUARTER, HALF, HALF + QUARTER]),
-    ("a from three times", &[[-ONE, -ONE], [0, 0], [HALF, 0], [HALF, QUARTER], [HALF, HALF], [ONE, ONE]], &[HALF]),
-    ("-1 twice", &[[-ONE, -ONE], [-ONE, -HALF], [0, 0], [ONE, ONE]], &[-ONE, -HALF]),
-    ("1 twice", &[[-ONE, -ONE], [0, 0], [ONE, HALF], [ONE, ONE]], &[HALF, ONE]),
-    ("an equal from behind a larger one", &[[-ONE, -ONE], [HALF, HALF], [0, QUARTER], [ONE, ONE]], &[-HALF, 0, QUARTER, HALF + QUARTER]),
+    (
+        "before the first pair",
+        &[[-HALF, -QUARTER], [0, 0], [ONE, ONE]],
+        &[-ONE, -HALF - QUARTER, -HALF, -QUARTER],
+    ),
+    (
+        "behind the last pair",
+        &[[-ONE, -ONE], [0, 0], [HALF, QUARTER]],
+        &[QUARTER, HALF, HALF + QUARTER, ONE],
+    ),
+    (
+        "a from twice, below 0",
+        &[[-ONE, -ONE], [-HALF, -HALF], [-HALF, 0], [0, 0], [ONE, ONE]],
+        &[-HALF - QUARTER, -HALF, -QUARTER],
+    ),
+    (
+        "a from twice, at 0",
+        &[[-ONE, -ONE], [0, HALF], [0, 0], [ONE, ONE]],
+        &[-HALF, 0, HALF],
+    ),
+    (
+        "a from twice, above 0",
+        &[
+            [-ONE, -ONE],
+            [0, 0],
+            [HALF, QUARTER],
+            [HALF, HALF],
+            [ONE, ONE],
+        ],
+        &[QUARTER, HALF, HALF + QUARTER],
+    ),
+    (
+        "a from three times",
+        &[
+            [-ONE, -ONE],
+            [0, 0],
+            [HALF, 0],
+            [HALF, QUARTER],
+            [HALF, HALF],
+            [ONE, ONE],
+        ],
+        &[HALF],
+    ),
+    (
+        "-1 twice",
+        &[[-ONE, -ONE], [-ONE, -HALF], [0, 0], [ONE, ONE]],
+        &[-ONE, -HALF],
+    ),
+    (
+        "1 twice",
+        &[[-ONE, -ONE], [0, 0], [ONE, HALF], [ONE, ONE]],
+        &[HALF, ONE],
+    ),
+    (
+        "an equal from behind a larger one",
+        &[[-ONE, -ONE], [HALF, HALF], [0, QUARTER], [ONE, ONE]],
+        &[-HALF, 0, QUARTER, HALF + QUARTER],
+    ),
     ("no pair", &[], &[-ONE, 0, HALF]),
 ];
 
@@ -38,8 +95,28 @@ const KARLA: Axis = [200, 400, 800];
 /// Karla's map, with one pair instead of all, with another first pair instead of two, without its last pair.
 const KARLA_MAPS: [(&str, &[Pair], f32); 3] = [
     ("Karla's axis, one pair", &[[0, QUARTER]], 431.),
-    ("Karla's, another first pair", &[[-HALF, -QUARTER], [0, 0], [4096, 3397], [12288, 7992], [ONE, ONE]], 201.),
-    ("Karla's, the last pair dropped", &[[-ONE, -ONE], [-HALF, -7992], [0, 0], [4096, 3397], [12288, 7992]], 749.),
+    (
+        "Karla's, another first pair",
+        &[
+            [-HALF, -QUARTER],
+            [0, 0],
+            [4096, 3397],
+            [12288, 7992],
+            [ONE, ONE],
+        ],
+        201.,
+    ),
+    (
+        "Karla's, the last pair dropped",
+        &[
+            [-ONE, -ONE],
+            [-HALF, -7992],
+            [0, 0],
+            [4096, 3397],
+            [12288, 7992],
+        ],
+        749.,
+    ),
 ];
 
 fn fvar(axis: Axis) -> Vec<u8> {
@@ -56,7 +133,10 @@ fn font(axis: Axis, avar: &[u8]) -> Vec<u8> {
     let fvar = fvar(axis);
     let mut font = vec![0, 1, 0, 0, 0, 2, 0, 0, 0, 0, 0, 0];
     let start = font.len() + 2 * 16;
-    for (tag, start, length) in [(b"avar", start + fvar.len(), avar.len()), (b"fvar", start, fvar.len())] {
+    for (tag, start, length) in [
+        (b"avar", start + fvar.len(), avar.len()),
+        (b"fvar", start, fvar.len()),
+    ] {
         font.extend(tag);
         font.extend([0; 4]);
         font.extend((start as u32).to_be_bytes());
@@ -75,8 +155,17 @@ fn exactly(value: i16) -> f32 {
 
 fn one(lines: &mut Lines, what: &str, axis: Axis, avar: &[u8], values: &[f32]) {
     let data = font(axis, avar);
-    let Some(face) = Face::at(&data, 0) else { return };
-    lines.put("bytes", &[bytes_text(data.iter().copied()), what.to_string(), bytes_text(avar.iter().copied())]);
+    let Some(face) = Face::at(&data, 0) else {
+        return;
+    };
+    lines.put(
+        "bytes",
+        &[
+            bytes_text(data.iter().copied()),
+            what.to_string(),
+            bytes_text(avar.iter().copied()),
+        ],
+    );
     lines.put("face", &face.words());
     for axis in face.font.variations() {
         for value in values {
@@ -87,19 +176,41 @@ fn one(lines: &mut Lines, what: &str, axis: Axis, avar: &[u8], values: &[f32]) {
 
 fn avar(count: u16, pairs: &[Pair]) -> Vec<u8> {
     let maps = vec![pairs.to_vec()];
-    Avar { header: [0, 1, 0, 0, 0, 0], count, maps }.bytes()
+    Avar {
+        header: [0, 1, 0, 0, 0, 0],
+        count,
+        maps,
+    }
+    .bytes()
 }
 
 pub fn ask() -> io::Result<()> {
     let lines = &mut Lines::new();
-    let all = |values: &[i16]| values.iter().map(|value| exactly(*value)).collect::<Vec<f32>>();
+    let all = |values: &[i16]| {
+        values
+            .iter()
+            .map(|value| exactly(*value))
+            .collect::<Vec<f32>>()
+    };
     for (what, pairs, values) in MAPS {
         one(lines, what, UNIT, &avar(1, pairs), &all(values));
     }
     let (_, pairs, values) = MAPS[1];
-    one(lines, "an axis past the count", UNIT, &avar(0, pairs), &all(values));
+    one(
+        lines,
+        "an axis past the count",
+        UNIT,
+        &avar(0, pairs),
+        &all(values),
+    );
     let whole = avar(1, pairs);
-    one(lines, "a map whose last pair is cut", UNIT, &whole[..whole.len() - 1], &all(values));
+    one(
+        lines,
+        "a map whose last pair is cut",
+        UNIT,
+        &whole[..whole.len() - 1],
+        &all(values),
+    );
     for (what, pairs, value) in KARLA_MAPS {
         one(lines, what, KARLA, &avar(1, pairs), &[value]);
     }

@@ -51,12 +51,20 @@ fn path_text(path: &Path) -> String {
 fn file(lines: &mut Lines, folder: &Path, path: &Path, rounds: u64, seed: u64) -> io::Result<()> {
     let mut data = fs::read(path)?;
     let below = path.strip_prefix(folder).unwrap_or(path);
-    let name = path.file_name().map_or(String::new(), |n| n.to_string_lossy().to_string());
+    let name = path
+        .file_name()
+        .map_or(String::new(), |n| n.to_string_lossy().to_string());
     lines.put("file", &[path_text(path), path_text(below)]);
     let count = FontDataRef::new(&data).map_or(0, |font| font.len());
     for index in 0..count {
         let Some(face) = Face::at(&data, index) else {
-            lines.put("left out", &[path_text(path), format!("face {index}, which swash can't open")]);
+            lines.put(
+                "left out",
+                &[
+                    path_text(path),
+                    format!("face {index}, which swash can't open"),
+                ],
+            );
             continue;
         };
         lines.put("face", &face.words());
@@ -90,9 +98,11 @@ fn fonts(folder: &Path, rounds: u64, seed: u64) -> io::Result<()> {
 
 fn run(words: &[&str]) -> Option<io::Result<()>> {
     match *words {
-        ["fonts", folder, rounds, seed] => {
-            Some(fonts(Path::new(folder), rounds.parse().ok()?, seed.parse().ok()?))
-        }
+        ["fonts", folder, rounds, seed] => Some(fonts(
+            Path::new(folder),
+            rounds.parse().ok()?,
+            seed.parse().ok()?,
+        )),
         ["made"] => Some(made::ask()),
         _ => None,
     }

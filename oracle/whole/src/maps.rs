@@ -21,18 +21,27 @@ pub struct Avar {
 impl Avar {
     /// The maps of a whole table.
     fn read(table: &[u8]) -> Option<Avar> {
-        let number = |k: usize| Some(u16::from_be_bytes(table.get(2 * k..2 * k + 2)?.try_into().ok()?));
+        let number = |k: usize| {
+            Some(u16::from_be_bytes(
+                table.get(2 * k..2 * k + 2)?.try_into().ok()?,
+            ))
+        };
         let count = number(3)?;
         let mut maps = vec![];
         let mut k = 4;
         for _ in 0..count {
             let pairs = number(k)? as usize;
-            let pair = |i: usize| Some([number(k + 1 + 2 * i)? as i16, number(k + 2 + 2 * i)? as i16]);
+            let pair =
+                |i: usize| Some([number(k + 1 + 2 * i)? as i16, number(k + 2 + 2 * i)? as i16]);
             maps.push((0..pairs).map(pair).collect::<Option<_>>()?);
             k += 1 + 2 * pairs;
         }
         let header = table[..6].try_into().ok()?;
-        Some(Avar { header, count, maps })
+        Some(Avar {
+            header,
+            count,
+            maps,
+        })
     }
 
     pub fn bytes(&self) -> Vec<u8> {
@@ -71,7 +80,10 @@ fn change(map: &mut Vec<Pair>, random: &mut Random) {
     match kind {
         0 => {
             for _ in 0..=random.below(3) {
-                let (k, side) = (random.below(map.len() as u64) as usize, random.below(2) as usize);
+                let (k, side) = (
+                    random.below(map.len() as u64) as usize,
+                    random.below(2) as usize,
+                );
                 map[k][side] = number(random, map[k][side]);
             }
         }
@@ -90,7 +102,9 @@ fn change(map: &mut Vec<Pair>, random: &mut Random) {
         }
         _ => {
             let count = random.below(6) as usize;
-            *map = (0..count).map(|_| [inside(random), inside(random)]).collect();
+            *map = (0..count)
+                .map(|_| [inside(random), inside(random)])
+                .collect();
             for pair in map.iter_mut() {
                 if random.below(3) == 0 {
                     pair[0] = random.pick(&NUMBERS);
@@ -115,7 +129,8 @@ fn damaged(avar: &Avar, random: &mut Random) -> Vec<u8> {
         }
     }
     if kind == 0 {
-        avar.count = [0, 1, avar.count.wrapping_sub(1), avar.count + 1, 65535][random.below(5) as usize];
+        avar.count =
+            [0, 1, avar.count.wrapping_sub(1), avar.count + 1, 65535][random.below(5) as usize];
     }
     if kind == 1 {
         avar.maps.pop();
@@ -139,7 +154,15 @@ fn damaged(avar: &Avar, random: &mut Random) -> Vec<u8> {
 /// Values of an axis that are at, next to and between the from values of its map, and its ends.
 fn values(axis: &Variation, map: Option<&Vec<Pair>>, random: &mut Random) -> Vec<f32> {
     let [min, default, max] = [axis.min_value(), axis.default_value(), axis.max_value()];
-    let value = |coord: f32| default + coord * if coord < 0. { default - min } else { max - default };
+    let value = |coord: f32| {
+        default
+            + coord
+                * if coord < 0. {
+                    default - min
+                } else {
+                    max - default
+                }
+    };
     let mut values = vec![min, default, max];
     let mut last = -1.;
     for pair in map.into_iter().flatten().take(8) {
@@ -152,7 +175,12 @@ fn values(axis: &Variation, map: Option<&Vec<Pair>>, random: &mut Random) -> Vec
 }
 
 /// The coordinates at those values, of all axes together at random, and of some instances.
-fn ask(lines: &mut Lines, face: &Face, map: impl Fn(usize) -> Option<Vec<Pair>>, random: &mut Random) {
+fn ask(
+    lines: &mut Lines,
+    face: &Face,
+    map: impl Fn(usize) -> Option<Vec<Pair>>,
+    random: &mut Random,
+) {
     let all: Vec<Variation> = face.font.variations().take(8).collect();
     for axis in &all {
         for value in values(axis, map(axis.index()).as_ref(), random) {
@@ -160,7 +188,10 @@ fn ask(lines: &mut Lines, face: &Face, map: impl Fn(usize) -> Option<Vec<Pair>>,
         }
     }
     for _ in 0..2 {
-        let settings: Vec<_> = all.iter().map(|axis| (axis.tag(), axes::within(axis, random))).collect();
+        let settings: Vec<_> = all
+            .iter()
+            .map(|axis| (axis.tag(), axes::within(axis, random)))
+            .collect();
         axes::coords(lines, face.font, &settings);
     }
     axes::instances(lines, face.font, 2);
@@ -170,7 +201,9 @@ fn ask(lines: &mut Lines, face: &Face, map: impl Fn(usize) -> Option<Vec<Pair>>,
 pub fn damage(lines: &mut Lines, data: &mut Vec<u8>, index: usize, random: &mut Random) {
     let found = Face::at(data, index).and_then(|face| Some((face, record(&face.font, b"avar")?)));
     let Some((face, p)) = found else { return };
-    let Some(avar) = Avar::read(face.table(b"avar")) else { return };
+    let Some(avar) = Avar::read(face.table(b"avar")) else {
+        return;
+    };
     let bytes = damaged(&avar, random);
     let before: [u8; 8] = data[p + 8..p + 16].try_into().unwrap();
     let whole = data.len();

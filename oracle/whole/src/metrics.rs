@@ -84,7 +84,9 @@ fn measures_text(m: Metrics) -> String {
 
 pub fn ask(lines: &mut Lines, face: &Face, pairs: usize, random: &mut Random) {
     let copy = face::unvaried(face);
-    let Some(unvaried) = face.copied(&copy) else { return };
+    let Some(unvaried) = face.copied(&copy) else {
+        return;
+    };
     let lists = lists(face.font, random);
     measures(lines, face.font, unvaried.font, &lists);
     let glyphs = glyphs(face);
@@ -104,12 +106,18 @@ fn measures(lines: &mut Lines, font: FontRef, unvaried: FontRef, lists: &[Vec<i1
     let plain = unvaried.metrics(&[]);
     let vertical = plain.has_vertical_metrics as u8;
     let numbers = [plain.units_per_em.to_string(), vertical.to_string()];
-    lines.put("unvaried", &[&numbers[..], &[measures_text(plain)]].concat());
+    lines.put(
+        "unvaried",
+        &[&numbers[..], &[measures_text(plain)]].concat(),
+    );
     for list in lists {
         for scale in SCALES {
             let answer = asked(|| measures_text(scale.measures(font.metrics(list))));
             let words = [coords_text(list.iter().copied())];
-            lines.put("measures", &[&words[..], &scale.words(), &[answer]].concat());
+            lines.put(
+                "measures",
+                &[&words[..], &scale.words(), &[answer]].concat(),
+            );
         }
     }
 }
@@ -156,7 +164,9 @@ fn numbers(lines: &mut Lines, unvaried: &Face, glyphs: &[u16]) {
     let mut other = unvaried.font.data.to_vec();
     let (start, length) = face::place(&unvaried.font, b"vmtx");
     other[start..start + length].fill(1);
-    let Some(other) = unvaried.copied(&other) else { return };
+    let Some(other) = unvaried.copied(&other) else {
+        return;
+    };
     let other = other.font.glyph_metrics(&[]);
     let synthesized = !metrics.has_vertical_metrics();
     let by_glyf = by_glyf(unvaried);
@@ -172,7 +182,11 @@ fn numbers(lines: &mut Lines, unvaried: &Face, glyphs: &[u16]) {
             let vertical = match synthesized {
                 // its floats are the font's and no glyph's
                 true => [Some(0.), Some(0.), None],
-                false => [Some(metrics.advance_height(glyph)), Some(metrics.tsb(glyph)), y(glyph)],
+                false => [
+                    Some(metrics.advance_height(glyph)),
+                    Some(metrics.tsb(glyph)),
+                    y(glyph),
+                ],
             };
             let horizontal = [Some(metrics.advance_width(glyph)), Some(metrics.lsb(glyph))];
             let numbers = horizontal.into_iter().chain(vertical);
@@ -205,8 +219,19 @@ fn lists(font: FontRef, random: &mut Random) -> Vec<Vec<i16>> {
     if count == 0 {
         return vec![vec![], vec![0], vec![8192]];
     }
-    let mut inside = || (0..count).map(|_| (random.below(32769) as i32 - 16384) as i16).collect::<Vec<i16>>();
-    let mut lists = vec![vec![], inside(), inside(), vec![0; count], vec![16384; count], vec![-16384; count]];
+    let mut inside = || {
+        (0..count)
+            .map(|_| (random.below(32769) as i32 - 16384) as i16)
+            .collect::<Vec<i16>>()
+    };
+    let mut lists = vec![
+        vec![],
+        inside(),
+        inside(),
+        vec![0; count],
+        vec![16384; count],
+        vec![-16384; count],
+    ];
     lists.extend((0..6).map(|_| inside()));
     for axis in 0..count {
         for end in [-16384, 16384] {
@@ -215,7 +240,9 @@ fn lists(font: FontRef, random: &mut Random) -> Vec<Vec<i16>> {
             lists.push(list);
         }
     }
-    let named = font.instances().map(|instance| instance.normalized_coords().collect());
+    let named = font
+        .instances()
+        .map(|instance| instance.normalized_coords().collect());
     lists.extend(named.take(24));
     lists.extend([vec![i16::MIN; count], vec![i16::MAX; count]]);
     lists.push(inside()[1..].to_vec());

@@ -67,6 +67,14 @@ impl Reader {
         self.tables.add(&self.font, self.judge.take());
     }
 
+    /// Another face, or another state of it.
+    fn begin(&mut self, change: impl FnOnce(&mut Font) -> Wrong<()>) -> Wrong<()> {
+        self.settle();
+        change(&mut self.font)?;
+        self.judge.input = self.font.title();
+        Ok(())
+    }
+
     fn line(&mut self, line: &str) -> Wrong<()> {
         let words: Vec<&str> = line.split('\t').collect();
         match (words[0], &words[1..]) {
@@ -87,24 +95,18 @@ impl Reader {
                 self.font = Font::made(bytes, what, avar)?;
             }
             ("face", numbers) => {
-                self.settle();
-                self.font.face(numbers)?;
-                self.tables.face(&self.font);
+                self.begin(|font| font.face(numbers))?;
+                self.tables.next_face();
             }
-            ("avar", [bytes]) => {
-                self.settle();
-                self.font.put_avar(bytes)?;
-            }
+            ("avar", [bytes]) => self.begin(|font| font.put_avar(bytes))?,
             ("filled", [vvar, behind, changes @ ..]) => {
-                self.settle();
-                self.font.fill(vvar, behind, changes)?;
+                self.begin(|font| font.fill(vvar, behind, changes))?
             }
             ("end", []) => {
                 self.settle();
                 self.ended = true;
             }
             (kind, words) => {
-                self.judge.input = self.font.title();
                 let known = coords::line(&mut self.judge, &self.font, kind, words)
                     .or_else(|| self.metrics.line(&mut self.judge, &self.font, kind, words));
                 known.ok_or_else(|| "no such line".to_string())?;
@@ -164,13 +166,3 @@ fn main() -> ExitCode {
         }
     }
 }
-
-/// For the tables: each state of a font is counted apart.
-const PHASES: [(Phase, &str); 3] = [
-    (Phase::AsItIs, "The fonts as they are"),
-    (
-        Phase::Filled,
-        "The fonts filled: maps of bearings, MVAR's indices as swash takes them, vertical metrics",
-    ),
-    (Phase::Damaged, "With avar damaged"),
-];

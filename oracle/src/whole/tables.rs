@@ -4,9 +4,18 @@
 use crate::deciding::WHYS;
 use crate::font::{Font, Phase};
 use crate::judge::{Counts, Tally, COLUMNS, FUNCTIONS};
-use crate::PHASES;
 use std::collections::BTreeMap;
 use std::fmt::Display;
+
+/// Each state of a font is counted apart.
+const PHASES: [(Phase, &str); 3] = [
+    (Phase::AsItIs, "The fonts as they are"),
+    (
+        Phase::Filled,
+        "The fonts filled: maps of bearings, MVAR's indices as swash takes them, vertical metrics",
+    ),
+    (Phase::Damaged, "With avar damaged"),
+];
 
 #[derive(Default)]
 struct Row {
@@ -52,7 +61,7 @@ impl Row {
 #[derive(Default)]
 pub struct Tables {
     rows: BTreeMap<(Phase, String), Row>,
-    /// the last face was counted in these states
+    /// in which states the last face was counted
     faces: Vec<Phase>,
 }
 
@@ -62,8 +71,7 @@ fn print_row(width: usize, name: &str, cells: &[impl Display]) {
 }
 
 impl Tables {
-    /// Another face begins.
-    pub fn face(&mut self, _: &Font) {
+    pub fn next_face(&mut self) {
         self.faces.clear();
     }
 

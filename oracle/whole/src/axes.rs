@@ -46,7 +46,8 @@ pub fn ask(lines: &mut Lines, face: &Face, random: &mut Random) {
     axes(lines, font);
     instances(lines, font, usize::MAX);
     let readable: Vec<Variation> = font.variations().collect();
-    for axis in &readable {
+    // settings give the coordinates of the first 32
+    for axis in readable.iter().take(32) {
         for value in values(axis, random) {
             normalize(lines, axis, value);
         }

@@ -12,12 +12,17 @@ thread_local! {
     static ASKED: Cell<bool> = const { Cell::new(false) };
 }
 
-/// The text of what swash answers.
-pub fn asked(question: impl FnOnce() -> String) -> String {
+/// What swash answers, if it doesn't stop.
+pub fn tried<T>(question: impl FnOnce() -> T) -> Option<T> {
     ASKED.set(true);
     let done = catch_unwind(AssertUnwindSafe(question));
     ASKED.set(false);
-    done.unwrap_or_else(|_| STOPS.to_string())
+    done.ok()
+}
+
+/// The same as a text.
+pub fn asked(question: impl FnOnce() -> String) -> String {
+    tried(question).unwrap_or_else(|| STOPS.to_string())
 }
 
 pub fn is_asked() -> bool {

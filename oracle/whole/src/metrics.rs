@@ -2,7 +2,7 @@
 
 use crate::axes::coords_text;
 use crate::face::{self, Face};
-use crate::lines::{asked, Lines};
+use crate::lines::{asked, tried, Lines};
 use crate::random::Random;
 use crate::text::{float_text, list_text, EMPTY};
 use swash::{FontRef, GlyphMetrics, Metrics};
@@ -134,7 +134,10 @@ fn vertical(lines: &mut Lines, face: &Face, unvaried: FontRef) {
     };
     // with vmtx, but neither VORG nor glyf, no MVAR is kept for it
     let no_mvar = face.has(b"vhea") && face.has(b"vmtx");
-    let floats = [metrics.advance_height(0), metrics.vertical_origin(0)];
+    let floats = match synthesized {
+        true => [metrics.advance_height(0), metrics.vertical_origin(0)],
+        false => [0.; 2],
+    };
     let words = [case.to_string(), (no_mvar as u8).to_string()];
     lines.put("vertical", &[&words[..], &floats.map(float_text)].concat());
 }
@@ -240,10 +243,9 @@ fn lists(font: FontRef, random: &mut Random) -> Vec<Vec<i16>> {
             lists.push(list);
         }
     }
-    let named = font
-        .instances()
-        .map(|instance| instance.normalized_coords().collect());
-    lists.extend(named.take(24));
+    for instance in font.instances().take(24) {
+        lists.extend(tried(|| instance.normalized_coords().collect()));
+    }
     lists.extend([vec![i16::MIN; count], vec![i16::MAX; count]]);
     lists.push(inside()[1..].to_vec());
     lists.push([inside(), vec![8192]].concat());

@@ -7,7 +7,7 @@ use crate::text::{float_text, list_text, EMPTY};
 use swash::{FontRef, Setting, Tag, Variation};
 
 /// The steps of the grid that is laid over each axis.
-const STEPS: u64 = 500;
+const STEPS: u64 = 5000;
 
 /// A tag that no font has.
 const UNKNOWN: Tag = 0x016e_6f7f;

@@ -215,13 +215,14 @@ fn at(lines: &mut Lines, font: FontRef, list: &[i16], scale: Scale, glyphs: &[u1
     }
 }
 
-/// None; the default; random ones; each axis end alone; all ends; the instances; the ends of the 2.14 range;
-/// one coordinate too few and too many.
+/// None; random ones, the first of them above the default, where most axes vary; the default; each
+/// axis end alone; all ends; the instances; the ends of the 2.14 range; one coordinate too few and too many.
 fn lists(font: FontRef, random: &mut Random) -> Vec<Vec<i16>> {
     let count = font.variations().len();
     if count == 0 {
         return vec![vec![], vec![0], vec![8192]];
     }
+    let above = (0..count).map(|_| random.below(16385) as i16).collect();
     let mut inside = || {
         (0..count)
             .map(|_| (random.below(32769) as i32 - 16384) as i16)
@@ -229,7 +230,7 @@ fn lists(font: FontRef, random: &mut Random) -> Vec<Vec<i16>> {
     };
     let mut lists = vec![
         vec![],
-        inside(),
+        above,
         inside(),
         vec![0; count],
         vec![16384; count],

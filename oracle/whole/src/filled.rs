@@ -29,16 +29,16 @@ fn maps(font: &FontRef, changes: &mut Vec<Change>) {
     }
 }
 
-/// MVAR's records have outer and inner index in OpenType's order, which swash takes the other way round; two of
-/// them get other tags, in order as before.
+/// MVAR's records have outer and inner index in OpenType's order, which swash takes the other way round. Some
+/// get other tags, in order as before: those that vary the synthesized case, and one that must count with
+/// vertical metrics alone; or, with these, two that do.
 fn records(font: &FontRef, vertical: bool, changes: &mut Vec<Change>) {
     let (start, length) = place(font, b"MVAR");
-    let count = if length == 0 {
-        0
-    } else {
-        u16_at(font.data, start + 8)
+    let count = match length {
+        0 => 0,
+        _ => u16_at(font.data, start + 8),
     };
-    if count < 2 || length < 12 + 8 * count {
+    if count < 3 || length < 12 + 8 * count {
         return;
     }
     let record = |k: usize| start + 12 + 8 * k;
@@ -46,11 +46,11 @@ fn records(font: &FontRef, vertical: bool, changes: &mut Vec<Change>) {
         let p = record(k) + 4;
         changes.push((p, [&font.data[p + 2..p + 4], &font.data[p..p + 2]].concat()));
     }
-    let (first, tags) = match vertical {
-        true => (count - 2, [b"vasc", b"vdsc"]),
-        false => (0, [b"hasc", b"hdsc"]),
+    let tags: &[(usize, &[u8])] = match vertical {
+        true => &[(count - 2, b"vasc"), (count - 1, b"vdsc")],
+        false => &[(0, b"hasc"), (1, b"hdsc"), (count - 1, b"vasc")],
     };
-    changes.extend((0..2).map(|k| (record(first + k), tags[k].to_vec())));
+    changes.extend(tags.iter().map(|(k, tag)| (record(*k), tag.to_vec())));
 }
 
 /// A directory with three more tables: horizontal ones once more, for vertical type.

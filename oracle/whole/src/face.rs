@@ -1,4 +1,4 @@
-//! One face, and where its tables are: by swash's own search of the directory.
+//! One face, and where its tables are.
 
 use swash::{tag_from_bytes, FontRef};
 
@@ -43,10 +43,23 @@ impl<'a> Face<'a> {
         let (start, length) = place(&self.font, b"fvar");
         let mut words = vec![self.index, start, length];
         for tag in [b"avar", b"HVAR", b"VVAR", b"MVAR"] {
-            words.push(place(&self.font, tag).0);
+            words.push(offset(&self.font, tag));
         }
         words.iter().map(usize::to_string).collect()
     }
+}
+
+/// Where a table starts, whether it is whole or not, as swash takes most of them; 0 where there is none.
+pub fn offset(font: &FontRef, tag: &[u8; 4]) -> usize {
+    let number = |p: usize| {
+        let bytes = font.data.get(p..p + 4)?;
+        bytes.try_into().ok().map(u32::from_be_bytes)
+    };
+    let range = |p: usize| {
+        let start = number(p + 8)?;
+        start.checked_add(number(p + 12)?).map(|_| start as usize)
+    };
+    record(font, tag).and_then(range).unwrap_or(0)
 }
 
 /// Where the directory has a table's record.

@@ -1,7 +1,7 @@
 //! What no font of a shelf has, so that it is asked for too: a map of bearings, MVAR's indices as swash takes
 //! them, tags that vary the synthesized case, and, with glyf, vertical metrics that vary.
 
-use crate::face::{place, record, Face};
+use crate::face::{offset, place, record, Face};
 use crate::lines::Lines;
 use crate::metrics;
 use crate::random::Random;
@@ -87,15 +87,15 @@ fn one(
     for (p, new) in changes {
         copy[*p..*p + new.len()].copy_from_slice(new);
     }
-    let offset = behind
+    let start = behind
         .as_ref()
         .map_or(face.font.offset, |_| copy.len() as u32);
     let behind = behind.unwrap_or_default();
     copy.extend(&behind);
-    let Some(font) = FontRef::from_offset(&copy, offset) else {
+    let Some(font) = FontRef::from_offset(&copy, start) else {
         return;
     };
-    let (vvar, _) = place(&font, b"VVAR");
+    let vvar = offset(&font, b"VVAR");
     let mut words = vec![vvar.to_string(), bytes_text(behind.iter().copied())];
     for (p, new) in changes {
         words.extend([p.to_string(), bytes_text(new.iter().copied())]);

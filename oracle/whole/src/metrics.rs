@@ -127,13 +127,13 @@ fn measures(lines: &mut Lines, font: FontRef, unvaried: FontRef, lists: &[Vec<i1
 fn vertical(lines: &mut Lines, face: &Face, unvaried: FontRef) {
     let metrics = unvaried.glyph_metrics(&[]);
     let synthesized = !metrics.has_vertical_metrics();
-    let case = match (synthesized, face.has(b"VORG")) {
+    let case = match (synthesized, face::offset(&face.font, b"VORG") != 0) {
         (true, _) => 2,
         (false, true) => 1,
         (false, false) => 0,
     };
     // with vmtx, but neither VORG nor glyf, no MVAR is kept for it
-    let no_mvar = face.has(b"vhea") && face.has(b"vmtx");
+    let no_mvar = face.has(b"vhea") && face::offset(&face.font, b"vmtx") != 0;
     let floats = match synthesized {
         true => [metrics.advance_height(0), metrics.vertical_origin(0)],
         false => [0.; 2],
@@ -144,7 +144,8 @@ fn vertical(lines: &mut Lines, face: &Face, unvaried: FontRef) {
 
 /// Whether swash has a glyph's vertical origin from its yMax.
 fn by_glyf(face: &Face) -> bool {
-    face.font.glyph_metrics(&[]).has_vertical_metrics() && !face.has(b"VORG")
+    let vertical = face.font.glyph_metrics(&[]).has_vertical_metrics();
+    vertical && face::offset(&face.font, b"VORG") == 0
 }
 
 /// Each glyph, one past the last, and the last of all numbers. With glyf none past the last: vmtx ends before

@@ -49,6 +49,9 @@ impl Lines {
                 .iter()
                 .fold(kind.to_string(), |line, word| line + "\t" + word);
             self.error = writeln!(self.out, "{line}").err();
+            if self.error.is_some() {
+                std::process::exit(2);
+            }
         }
     }
 

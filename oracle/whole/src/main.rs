@@ -58,16 +58,17 @@ fn file(lines: &mut Lines, folder: &Path, path: &Path, rounds: u64, seed: u64) -
     let count = FontDataRef::new(&data).map_or(0, |font| font.len());
     // a count may be any number, but each face of a collection has four bytes there
     for index in 0..count.min(data.len() / 4) {
+        let mut leave = |why: &str| {
+            lines.put("left out", &[path_text(path), format!("face {index}, {why}")]);
+        };
         let Some(face) = Face::at(&data, index) else {
-            lines.put(
-                "left out",
-                &[
-                    path_text(path),
-                    format!("face {index}, which swash can't open"),
-                ],
-            );
+            leave("which swash can't open");
             continue;
         };
+        if face.font.variations().len() > text::LIST {
+            leave("which has more axes than a line has room for");
+            continue;
+        }
         lines.put("face", &face.words());
         let random = &mut Random::new(seed_of(SEED, &name, index, 0));
         axes::ask(lines, &face, random);

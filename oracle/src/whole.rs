@@ -38,7 +38,7 @@ mod metrics {
     pub mod rules;
 }
 
-use font::{Font, Phase};
+use font::Font;
 use judge::Judge;
 use measures::Metrics;
 use std::io::{self, BufRead};
@@ -81,10 +81,9 @@ impl Reader {
             ("left out", [path, why]) => {
                 println!("left out: {}: {}", font::shown(&font::path(path)?), why)
             }
+            ("part left out", [why]) => println!("left out: {}: {}", self.font.state(), why),
             ("lists left out", [count]) => {
-                if self.font.phase == Phase::AsItIs {
-                    println!("{}: {} left out at its glyphs", self.font.title(), count);
-                }
+                println!("{}: {} left out at its glyphs", self.font.state(), count)
             }
             ("file", [path, below]) => {
                 self.settle();

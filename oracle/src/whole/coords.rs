@@ -230,6 +230,7 @@ fn instance_coords(judge: &mut Judge, font: &Font, index: u16, rust: Rust<Vec<i1
         written(ours, list),
         narrow(rule),
         &whys,
+        rules::few_left(table, index.into()),
     );
 }
 
@@ -262,6 +263,7 @@ fn normalize(
         ours,
         narrow(rule),
         &[why],
+        false,
     );
 }
 
@@ -287,5 +289,6 @@ fn settings(judge: &mut Judge, font: &Font, tags: &[u32], values: &[f32], rust: 
         ours,
         narrow(rule),
         &whys,
+        false,
     );
 }

@@ -6,8 +6,8 @@
 //! - a value before the first pair, or behind the last one, is moved as that pair is, where document 01 leaves
 //!   it. So is every value but the one from, where there is one pair;
 //! - it looks for a from that is the value in the whole map, and takes of several in a row the last, the first,
-//!   the middle one or the one with the smaller to; document 01 takes the first pair whose from is not below the
-//!   value.
+//!   the middle one, or of the first and the last the one whose to is nearer to 0, the last if both are; document
+//!   01 takes the first pair whose from is not below the value.
 //!
 //! Anywhere else a difference is one.
 

@@ -150,6 +150,16 @@ impl Font {
         Ok(())
     }
 
+    /// The face and its state, without what was done to it byte by byte.
+    pub fn state(&self) -> String {
+        let state = match self.phase {
+            Phase::AsItIs => "",
+            Phase::Filled => ", filled",
+            Phase::Damaged => ", avar damaged",
+        };
+        format!("{}, face {}{}", self.name, self.face, state)
+    }
+
     pub fn title(&self) -> String {
         format!("{}, face {}{}", self.name, self.face, self.done)
     }

@@ -207,6 +207,7 @@ impl Judge {
         ours: Answer<Vec<i16>>,
         rule: Answer<Vec<i16>>,
         whys: &[Option<Why>],
+        few_left: bool,
     ) {
         if self.loud {
             let why = whys[0].map_or(String::new(), |why| format!(" ({})", WHYS[why as usize]));
@@ -226,7 +227,7 @@ impl Judge {
             {
                 (theirs, said)
             }
-            _ => return self.judge(function, arguments, rust, ours, rule, false),
+            _ => return self.judge(function, arguments, rust, ours, rule, few_left),
         };
         let apart: Vec<bool> = theirs.iter().zip(said).map(|(a, b)| a != b).collect();
         let free = apart

@@ -114,13 +114,10 @@ impl Metrics {
                 });
                 self.glyphs.clear();
             }
-            ("glyph", [glyph, answer]) => {
+            ("glyph", [glyph, numbers]) => {
                 self.glyphs.resize(1 << 16, None);
                 let glyph: usize = glyph.parse().ok()?;
-                self.glyphs[glyph] = match *answer {
-                    "stops" => None,
-                    numbers => Some(unvaried(numbers)?),
-                };
+                self.glyphs[glyph] = Some(unvaried(numbers)?);
             }
             ("at", [coords, kind, x]) => {
                 self.at = Some(self.at(font, halves(coords)?, scale_of(kind, x)?)?);
@@ -206,11 +203,7 @@ impl Metrics {
     /// The five metrics of a glyph.
     fn glyph(&self, judge: &mut Judge, font: &Font, glyph: u16, answer: &str) -> Option<()> {
         let at = self.at.as_ref()?;
-        let unvaried = match self.glyphs.get(usize::from(glyph))? {
-            Some(unvaried) => *unvaried,
-            // swash stops in the table that has them, and there is nothing to hand to ours
-            None => return Some(()),
-        };
+        let unvaried = (*self.glyphs.get(usize::from(glyph))?)?;
         let (data, coords) = (&font.data[..], &at.coords[..]);
         let ours = [
             at.ours.advance_width(data, glyph, coords, unvaried.width),

@@ -1,5 +1,6 @@
 //! One face, and where its tables are.
 
+use std::cmp::Ordering;
 use swash::{tag_from_bytes, FontRef};
 
 #[derive(Clone, Copy)]
@@ -62,14 +63,22 @@ pub fn offset(font: &FontRef, tag: &[u8; 4]) -> usize {
     record(font, tag).and_then(range).unwrap_or(0)
 }
 
-/// Where the directory has a table's record.
+/// Where the directory has a table's record, by halves, as swash looks for it: what it misses, where the records
+/// are out of order, is not there.
 pub fn record(font: &FontRef, tag: &[u8; 4]) -> Option<usize> {
     let start = font.offset as usize;
     let count = font.data.get(start + 4..start + 6)?;
-    let count = u16::from_be_bytes(count.try_into().ok()?) as usize;
-    let places = (0..count).map(|i| start + 12 + 16 * i);
-    let mut found = places.filter(|p| font.data.get(*p..*p + 4) == Some(tag));
-    found.next()
+    let (mut low, mut high) = (0, u16::from_be_bytes(count.try_into().ok()?) as usize);
+    while low < high {
+        let middle = (low + high) / 2;
+        let p = start + 12 + 16 * middle;
+        match tag[..].cmp(font.data.get(p..p + 4)?) {
+            Ordering::Less => high = middle,
+            Ordering::Greater => low = middle + 1,
+            Ordering::Equal => return Some(p),
+        }
+    }
+    None
 }
 
 /// A copy of the font in which nothing varies: swash finds none of the tables by which a measure does. The

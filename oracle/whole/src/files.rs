@@ -47,7 +47,7 @@ impl Files {
             return self.leave(path, "a link to a folder");
         }
         if !path.is_file() {
-            return Ok(());
+            return self.leave(path, "no file, or a link that leads to none");
         }
         let mut start = vec![];
         fs::File::open(path)?.take(4).read_to_end(&mut start)?;

@@ -93,7 +93,7 @@ fn one(
     let behind = behind.unwrap_or_default();
     copy.extend(&behind);
     let Some(font) = FontRef::from_offset(&copy, start) else {
-        return;
+        return lines.leave("it is not filled: swash can't open what it becomes");
     };
     let vvar = offset(&font, b"VVAR");
     let mut words = vec![vvar.to_string(), bytes_text(behind.iter().copied())];

@@ -55,6 +55,11 @@ impl Lines {
         }
     }
 
+    /// Names a part of the face that is not asked for, with the reason.
+    pub fn leave(&mut self, why: &str) {
+        self.put("part left out", &[why.to_string()]);
+    }
+
     /// Without this line the reader knows that something is missing.
     pub fn end(&mut self) -> io::Result<()> {
         self.put("end", &[]);

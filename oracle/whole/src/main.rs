@@ -20,6 +20,7 @@ use face::Face;
 use files::Files;
 use lines::Lines;
 use random::Random;
+use std::ffi::OsString;
 use std::fs;
 use std::io;
 use std::os::unix::ffi::OsStrExt;
@@ -57,19 +58,29 @@ fn file(lines: &mut Lines, folder: &Path, path: &Path, rounds: u64, seed: u64) -
     lines.put("file", &[path_text(path), path_text(below)]);
     let count = FontDataRef::new(&data).map_or(0, |font| font.len());
     // a count may be any number, but each face of a collection has four bytes there
-    for index in 0..count.min(data.len() / 4) {
-        let mut leave = |why: &str| {
-            lines.put("left out", &[path_text(path), format!("face {index}, {why}")]);
-        };
+    let most = count.min(data.len() / 4);
+    let leave = |lines: &mut Lines, why: String| lines.put("left out", &[path_text(path), why]);
+    if count == 0 {
+        leave(lines, "a collection of no face".to_string());
+    }
+    if most < count {
+        leave(lines, format!("{} faces past its end", count - most));
+    }
+    for index in 0..most {
         let Some(face) = Face::at(&data, index) else {
-            leave("which swash can't open");
+            leave(lines, format!("face {index}, which swash can't open"));
             continue;
         };
-        if face.font.variations().len() > text::LIST {
-            leave("which has more axes than a line has room for");
+        // one list has a coordinate too many
+        if face.font.variations().len() >= text::LIST {
+            let why = "which has more axes than a line has room for";
+            leave(lines, format!("face {index}, {why}"));
             continue;
         }
         lines.put("face", &face.words());
+        if rounds > 0 && maps::is_cut(&face) {
+            lines.leave("its avar is not damaged: it is not whole");
+        }
         let random = &mut Random::new(seed_of(SEED, &name, index, 0));
         axes::ask(lines, &face, random);
         metrics::ask(lines, &face, metrics::PAIRS, random);
@@ -98,14 +109,14 @@ fn fonts(folder: &Path, rounds: u64, seed: u64) -> io::Result<()> {
     lines.end()
 }
 
-fn run(words: &[&str]) -> Option<io::Result<()>> {
-    match *words {
-        ["fonts", folder, rounds, seed] => Some(fonts(
-            Path::new(folder),
-            rounds.parse().ok()?,
-            seed.parse().ok()?,
-        )),
-        ["made"] => Some(made::ask()),
+fn run(words: &[OsString]) -> Option<io::Result<()>> {
+    let number = |word: &OsString| word.to_str()?.parse().ok();
+    let (word, rest) = words.split_first()?;
+    match (word.to_str()?, rest) {
+        ("fonts", [folder, rounds, seed]) => {
+            Some(fonts(Path::new(folder), number(rounds)?, number(seed)?))
+        }
+        ("made", []) => Some(made::ask()),
         _ => None,
     }
 }
@@ -117,12 +128,11 @@ fn main() -> ExitCode {
             eprintln!("swash: a fault of its own: {fault}");
         }
     }));
-    let words: Vec<String> = std::env::args().skip(1).collect();
-    let words: Vec<&str> = words.iter().map(String::as_str).collect();
+    let words: Vec<OsString> = std::env::args_os().skip(1).collect();
     match run(&words) {
         Some(Ok(())) => ExitCode::SUCCESS,
         Some(Err(why)) => {
-            eprintln!("swash: {}: {why}", words[1..].join(" "));
+            eprintln!("swash: {:?}: {why}", words[1..].join(" ".as_ref()));
             ExitCode::from(2)
         }
         None => {

@@ -129,8 +129,13 @@ fn damaged(avar: &Avar, random: &mut Random) -> Vec<u8> {
         }
     }
     if kind == 0 {
-        avar.count =
-            [0, 1, avar.count.wrapping_sub(1), avar.count + 1, 65535][random.below(5) as usize];
+        avar.count = [
+            0,
+            1,
+            avar.count.wrapping_sub(1),
+            avar.count.wrapping_add(1),
+            65535,
+        ][random.below(5) as usize];
     }
     if kind == 1 {
         avar.maps.pop();
@@ -197,7 +202,13 @@ fn ask(
     axes::instances(lines, face.font, 2);
 }
 
-/// Damages the avar of a face, which then stands behind the font's bytes, and asks; not where there is none.
+/// Whether a face has an avar that is not whole: such a one is not damaged.
+pub fn is_cut(face: &Face) -> bool {
+    record(&face.font, b"avar").is_some() && Avar::read(face.table(b"avar")).is_none()
+}
+
+/// Damages the avar of a face, which then stands behind the font's bytes, and asks; not where there is none, or no
+/// whole one.
 pub fn damage(lines: &mut Lines, data: &mut Vec<u8>, index: usize, random: &mut Random) {
     let found = Face::at(data, index).and_then(|face| Some((face, record(&face.font, b"avar")?)));
     let Some((face, p)) = found else { return };

@@ -2,7 +2,7 @@
 
 use crate::axes::coords_text;
 use crate::face::{self, Face};
-use crate::lines::{asked, tried, Lines};
+use crate::lines::{asked, tried, Lines, STOPS};
 use crate::random::Random;
 use crate::text::{float_text, list_text, EMPTY};
 use swash::{FontRef, GlyphMetrics, Metrics};
@@ -82,16 +82,48 @@ fn measures_text(m: Metrics) -> String {
     list_text(list.into_iter().map(float_text))
 }
 
+/// What swash reads of a copy with no coordinates, where nothing varies.
+struct Unvaried<'a> {
+    measures: Metrics,
+    glyphs: GlyphMetrics<'a>,
+}
+
+impl<'a> Unvaried<'a> {
+    /// Or why not: where swash stops here, it does in the reading of tables, which is not ported.
+    fn of(face: &Face, copy: &'a [u8]) -> Result<Self, &'static str> {
+        let copy = face.copied(copy).ok_or("swash can't open a copy")?;
+        let read = tried(|| Unvaried {
+            measures: copy.font.metrics(&[]),
+            glyphs: copy.font.glyph_metrics(&[]),
+        });
+        read.ok_or("swash stops in the tables that have them")
+    }
+}
+
 pub fn ask(lines: &mut Lines, face: &Face, pairs: usize, random: &mut Random) {
+    if let Err(why) = ask_all(lines, face, pairs, random) {
+        lines.leave(&format!("measures and glyphs: {why}"));
+    }
+}
+
+fn ask_all(
+    lines: &mut Lines,
+    face: &Face,
+    pairs: usize,
+    random: &mut Random,
+) -> Result<(), &'static str> {
+    if !face.has(b"head") || !face.has(b"maxp") {
+        return Err("without head and maxp swash reads no other table");
+    }
     let copy = face::unvaried(face);
-    let Some(unvaried) = face.copied(&copy) else {
-        return;
-    };
+    let other = alike(face, &copy);
+    let (plain, other) = (Unvaried::of(face, &copy)?, Unvaried::of(face, &other)?);
     let lists = lists(face.font, random);
-    measures(lines, face.font, unvaried.font, &lists);
-    let glyphs = glyphs(face);
-    vertical(lines, face, unvaried.font);
-    numbers(lines, &unvaried, &glyphs);
+    measures(lines, face.font, &plain.measures, &lists);
+    let by_glyf = by_glyf(face, &plain);
+    let glyphs = glyphs(plain.measures.glyph_count, by_glyf);
+    vertical(lines, face, &plain.glyphs);
+    let glyphs = numbers(lines, &plain.glyphs, &other.glyphs, by_glyf, &glyphs);
     let most = (pairs / glyphs.len().max(1)).max(3);
     if most < lists.len() {
         let name = format!("{} of {} lists", lists.len() - most, lists.len());
@@ -100,15 +132,15 @@ pub fn ask(lines: &mut Lines, face: &Face, pairs: usize, random: &mut Random) {
     for (k, list) in lists.iter().take(most).enumerate() {
         at(lines, face.font, list, SCALES[k % SCALES.len()], &glyphs);
     }
+    Ok(())
 }
 
-fn measures(lines: &mut Lines, font: FontRef, unvaried: FontRef, lists: &[Vec<i16>]) {
-    let plain = unvaried.metrics(&[]);
+fn measures(lines: &mut Lines, font: FontRef, plain: &Metrics, lists: &[Vec<i16>]) {
     let vertical = plain.has_vertical_metrics as u8;
     let numbers = [plain.units_per_em.to_string(), vertical.to_string()];
     lines.put(
         "unvaried",
-        &[&numbers[..], &[measures_text(plain)]].concat(),
+        &[&numbers[..], &[measures_text(*plain)]].concat(),
     );
     for list in lists {
         for scale in SCALES {
@@ -124,8 +156,7 @@ fn measures(lines: &mut Lines, font: FontRef, unvaried: FontRef, lists: &[Vec<i1
 
 /// Which of swash's three cases of vertical type the font is, as its metrics.rs finds it; where MVAR is for
 /// that; the two floats of the synthesized case.
-fn vertical(lines: &mut Lines, face: &Face, unvaried: FontRef) {
-    let metrics = unvaried.glyph_metrics(&[]);
+fn vertical(lines: &mut Lines, face: &Face, metrics: &GlyphMetrics) {
     let synthesized = !metrics.has_vertical_metrics();
     let case = match (synthesized, face::offset(&face.font, b"VORG") != 0) {
         (true, _) => 2,
@@ -143,37 +174,42 @@ fn vertical(lines: &mut Lines, face: &Face, unvaried: FontRef) {
 }
 
 /// Whether swash has a glyph's vertical origin from its yMax.
-fn by_glyf(face: &Face) -> bool {
-    let vertical = face.font.glyph_metrics(&[]).has_vertical_metrics();
-    vertical && face::offset(&face.font, b"VORG") == 0
+fn by_glyf(face: &Face, plain: &Unvaried) -> bool {
+    plain.glyphs.has_vertical_metrics() && face::offset(&face.font, b"VORG") == 0
 }
 
 /// Each glyph, one past the last, and the last of all numbers. With glyf none past the last: vmtx ends before
 /// it, and its yMax would not be found (see below).
-fn glyphs(face: &Face) -> Vec<u16> {
-    let count = face.font.metrics(&[]).glyph_count;
+fn glyphs(count: u16, by_glyf: bool) -> Vec<u16> {
     let mut glyphs: Vec<u16> = (0..count).collect();
-    if !by_glyf(face) {
+    if !by_glyf {
         glyphs.extend((count < 65535).then_some(count));
         glyphs.push(65535);
     }
     glyphs
 }
 
+/// A copy in which every byte of vmtx is 1, and so each top bearing 257.
+fn alike(face: &Face, copy: &[u8]) -> Vec<u8> {
+    let mut other = copy.to_vec();
+    let (start, length) = face::place(&face.font, b"vmtx");
+    other[start..start + length].fill(1);
+    other
+}
+
 /// The five unvaried numbers of each glyph. A bearing of 257 for all glyphs shows swash's yMax, and whether it
 /// has one: its origin is yMax + 257, and at scale 2 twice yMax and four times 257, since the bearing is
-/// scaled twice; without a yMax it is just twice as much.
-fn numbers(lines: &mut Lines, unvaried: &Face, glyphs: &[u16]) {
-    let metrics = unvaried.font.glyph_metrics(&[]);
-    let mut other = unvaried.font.data.to_vec();
-    let (start, length) = face::place(&unvaried.font, b"vmtx");
-    other[start..start + length].fill(1);
-    let Some(other) = unvaried.copied(&other) else {
-        return;
-    };
-    let other = other.font.glyph_metrics(&[]);
+/// scaled twice; without a yMax it is just twice as much. Answers the glyphs that have the five: where swash
+/// stops on one of them, or has the bearing from behind vmtx, so that yMax does not show, there is nothing to
+/// hand to ours.
+fn numbers(
+    lines: &mut Lines,
+    metrics: &GlyphMetrics,
+    other: &GlyphMetrics,
+    by_glyf: bool,
+    glyphs: &[u16],
+) -> Vec<u16> {
     let synthesized = !metrics.has_vertical_metrics();
-    let by_glyf = by_glyf(unvaried);
     let y = |glyph| {
         let [once, twice] = [1., 2.].map(|scale| other.linear_scale(scale).vertical_origin(glyph));
         match by_glyf {
@@ -181,8 +217,12 @@ fn numbers(lines: &mut Lines, unvaried: &Face, glyphs: &[u16]) {
             false => Some(metrics.vertical_origin(glyph)),
         }
     };
+    let mut found = vec![];
     for &glyph in glyphs {
-        let answer = asked(|| {
+        let answer = tried(|| {
+            if by_glyf && other.tsb(glyph) != 257. {
+                return None;
+            }
             let vertical = match synthesized {
                 // its floats are the font's and no glyph's
                 true => [Some(0.), Some(0.), None],
@@ -194,26 +234,43 @@ fn numbers(lines: &mut Lines, unvaried: &Face, glyphs: &[u16]) {
             };
             let horizontal = [Some(metrics.advance_width(glyph)), Some(metrics.lsb(glyph))];
             let numbers = horizontal.into_iter().chain(vertical);
-            list_text(numbers.map(|n| n.map_or(EMPTY.to_string(), |n| n.to_string())))
+            let text = |n: Option<f32>| n.map_or(EMPTY.to_string(), |n| n.to_string());
+            Some(list_text(numbers.map(text)))
         });
-        lines.put("glyph", &[glyph.to_string(), answer]);
+        if let Some(answer) = answer.flatten() {
+            lines.put("glyph", &[glyph.to_string(), answer]);
+            found.push(glyph);
+        }
     }
+    let left = glyphs.len() - found.len();
+    if left > 0 {
+        let all = glyphs.len();
+        lines.leave(&format!(
+            "{left} of {all} glyphs: swash stops on their unvaried numbers, or vmtx ends before them"
+        ));
+    }
+    found
 }
 
 fn at(lines: &mut Lines, font: FontRef, list: &[i16], scale: Scale, glyphs: &[u16]) {
     let words = [coords_text(list.iter().copied())];
     lines.put("at", &[&words[..], &scale.words()].concat());
-    let metrics = scale.glyphs(font.glyph_metrics(list));
+    // MVAR varies the synthesized case here; where that stops, no glyph has an answer
+    let metrics = tried(|| scale.glyphs(font.glyph_metrics(list)));
     for &glyph in glyphs {
-        let answers = [
-            asked(|| float_text(metrics.advance_width(glyph))),
-            asked(|| float_text(metrics.lsb(glyph))),
-            asked(|| float_text(metrics.advance_height(glyph))),
-            asked(|| float_text(metrics.tsb(glyph))),
-            asked(|| float_text(metrics.vertical_origin(glyph))),
-        ];
+        let answers = metrics.map_or([STOPS; 5].map(str::to_string), |m| five(&m, glyph));
         lines.put("metrics", &[glyph.to_string(), answers.join(",")]);
     }
+}
+
+fn five(metrics: &GlyphMetrics, glyph: u16) -> [String; 5] {
+    [
+        asked(|| float_text(metrics.advance_width(glyph))),
+        asked(|| float_text(metrics.lsb(glyph))),
+        asked(|| float_text(metrics.advance_height(glyph))),
+        asked(|| float_text(metrics.tsb(glyph))),
+        asked(|| float_text(metrics.vertical_origin(glyph))),
+    ]
 }
 
 /// None; random ones, the first of them above the default, where most axes vary; the default; each
@@ -245,8 +302,10 @@ fn lists(font: FontRef, random: &mut Random) -> Vec<Vec<i16>> {
             lists.push(list);
         }
     }
-    for instance in font.instances().take(24) {
-        lists.extend(tried(|| instance.normalized_coords().collect()));
+    for index in 0..font.instances().len().min(24) {
+        let instance = || font.instances().nth(index);
+        let coords = tried(|| instance().map(|i| i.normalized_coords().collect()));
+        lists.extend(coords.flatten());
     }
     lists.extend([vec![i16::MIN; count], vec![i16::MAX; count]]);
     lists.push(inside()[1..].to_vec());

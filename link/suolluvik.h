@@ -7,14 +7,19 @@
  *
  * Lists. A list is a pointer and, right behind it, how many elements it has. Any bytes, offsets, ids, coordinates and
  * floats are taken. What is asked of the caller: a pointer is aligned for its type; behind it are as many elements as
- * said; what is written through a pointer overlaps nothing else of the call. NULL with 0 elements is an empty list; any
- * other pointer is not null.
+ * said, initialised where they are read; what is written through a pointer overlaps nothing else of the call; a bool is 0
+ * or 1. NULL with 0 elements is an empty list; any other pointer is not null.
  *
- * Floats. The thread's float environment is the one that a program starts with: rounding to nearest, and nothing flushed
- * to zero.
+ * Floats. The thread's float environment rounds to nearest and flushes nothing to zero, as C has it at a program's start; one
+ * that is linked with -ffast-math starts with another.
  *
  * A font is the whole file, and offsets count from its start; 0 says that there is no such table. `fvar` is that table
- * alone. Coordinates are normalised, in 2.14; a missing one is 0. A 16.16 number is written as its raw integer. */
+ * alone. Coordinates are normalised, in 2.14; a missing one is 0. A 16.16 number is written as its raw integer. A tag is the
+ * number that its four letters make, the first one highest: wght is 0x77676874.
+ *
+ * The answers are swash's, also where OpenType says something else, but for avar maps that OpenType does not allow;
+ * docs/DIFFERENCES.md has each such place. Two are met in many fonts: an instance's PostScript name id is not the one that
+ * OpenType means, and of MVAR's records most are refused. */
 #ifndef SUOLLUVIK_H
 #define SUOLLUVIK_H
 
@@ -64,8 +69,8 @@ uint8_t suolluvik_sb_delta_fixed(const uint8_t *font, size_t font_len, uint32_t 
 uint8_t suolluvik_sb_delta(const uint8_t *font, size_t font_len, uint32_t xvar, uint16_t glyph_id,
                            const int16_t *coords, size_t coords_len, float *value);
 
-/* The delta of a measure, by its tag (the number that the four letters make), by the MVAR at the offset mvar. Here an
- * offset of 0 is opened like any other. */
+/* The delta of a measure, by its tag, by the MVAR at the offset mvar. Here an offset of 0 is opened like any other. As in
+ * swash a record's two indices are taken in the other order than OpenType's: most records of real fonts are refused by 3. */
 uint8_t suolluvik_mvar_delta_fixed(const uint8_t *font, size_t font_len, uint32_t mvar, uint32_t tag,
                                    const int16_t *coords, size_t coords_len, int32_t *value);
 uint8_t suolluvik_mvar_delta(const uint8_t *font, size_t font_len, uint32_t mvar, uint32_t tag,
@@ -85,7 +90,8 @@ uint8_t suolluvik_axis_by_tag(const uint8_t *fvar, size_t fvar_len, uint32_t tag
 /* A 16.16 number as the nearest float. */
 float suolluvik_fixed_to_f32(int32_t fixed);
 
-/* An instance, by its index. has_postscript_name is 1 or 0; where it is 0, postscript_name_id is. */
+/* An instance, by its index. has_postscript_name is 1 or 0; where it is 0, postscript_name_id is. As in swash the place of
+ * that id is counted from the table's start and not from the record's, so it is some other number of the table. */
 uint8_t suolluvik_instance(const uint8_t *fvar, size_t fvar_len, uint16_t index, uint16_t *name_id,
                            uint8_t *has_postscript_name, uint16_t *postscript_name_id);
 
@@ -94,7 +100,8 @@ uint8_t suolluvik_instance_floats(const uint8_t *fvar, size_t fvar_len, uint16_t
                                   uint16_t *count);
 
 /* The coordinates that settings give, a tag and a value each: at most 32, one for each axis. The last setting of a tag
- * wins; an axis without one is at 0. avar is an offset in the font. */
+ * wins; an axis without one is at 0; one with a tag that no axis has changes nothing; a NaN counts as 0. avar is an offset
+ * in the font. */
 uint8_t suolluvik_normalized_coords(const uint8_t *fvar, size_t fvar_len, const uint8_t *font, size_t font_len,
                                     uint32_t avar, const uint32_t *tags, size_t tags_len, const float *values,
                                     size_t values_len, int16_t *out, size_t out_len, uint16_t *count);
@@ -103,8 +110,11 @@ uint8_t suolluvik_normalized_coords(const uint8_t *fvar, size_t fvar_len, const 
 uint8_t suolluvik_instance_coords(const uint8_t *fvar, size_t fvar_len, const uint8_t *font, size_t font_len,
                                   uint32_t avar, uint16_t index, int16_t *out, size_t out_len, uint16_t *count);
 
-/* A font's measures, which are changed in place. A record is handed over with how many floats it has: thirteen, as here,
- * and any other number is refused by 7. A later library may have a longer record beside this one. */
+/* A font's measures, which are changed in place, with swash's names: a descent is minus OpenType's descender. A record is
+ * handed over with how many floats it has, SUOLLUVIK_METRICS_FLOATS, which is neither 1 nor its sizeof: thirteen, and any
+ * other number is refused by 7. A later header may have further floats behind these, and its library takes both: a program
+ * that was built before hands over thirteen. So start from `= {0}`, and hand no record to a part of a program that was built
+ * by another header. */
 typedef struct suolluvik_metrics {
     float ascent;
     float descent;
@@ -122,8 +132,10 @@ typedef struct suolluvik_metrics {
 } suolluvik_metrics;
 #define SUOLLUVIK_METRICS_FLOATS (sizeof(suolluvik_metrics) / sizeof(float))
 
-/* From the unvaried measures those at some coordinates, by the MVAR at the offset mvar, 0 for none; the vertical ones
- * are shifted only with vertical metrics. Where it does not open, or the coordinate list is empty, they stay. */
+/* From the unvaried measures, in font units, those at some coordinates, by the MVAR at the offset mvar, 0 for none; the
+ * vertical ones are shifted only with vertical metrics, which is to say if the font has a vhea. Where it does not open, or the
+ * coordinate list is empty, they stay; where a delta is refused, so does its measure. What is shifted already is shifted once
+ * more. */
 uint8_t suolluvik_materialize_metrics(const uint8_t *font, size_t font_len, uint32_t mvar, const int16_t *coords,
                                       size_t coords_len, bool has_vertical_metrics, suolluvik_metrics *measures,
                                       size_t measures_len);
@@ -142,8 +154,9 @@ float suolluvik_advance_width(const uint8_t *font, size_t font_len, uint32_t hva
 float suolluvik_lsb(const uint8_t *font, size_t font_len, uint32_t hvar, uint16_t glyph_id, const int16_t *coords,
                     size_t coords_len, int16_t unvaried, float scale);
 
-/* What the font has for vertical type: vmtx and glyf, vmtx and VORG, or nothing, and advance height and origin are made
- * from its measures. A function that is handed another number as `vertical` refuses by 3. */
+/* What the font has for vertical type: vmtx and glyf, vmtx and VORG, or neither, and advance height and origin are made
+ * from its measures. swash looks for vmtx only where there is a vhea, and for VORG before glyf; where it finds vmtx and neither
+ * of these, it synthesizes from zeros, without MVAR. A function that is handed another number as `vertical` refuses by 3. */
 enum suolluvik_vertical { SUOLLUVIK_VMTX_GLYF = 0, SUOLLUVIK_VMTX_VORG = 1, SUOLLUVIK_SYNTHESIZED = 2 };
 
 /* What is made from the unvaried measures; the descent is minus hhea's descender, or OS/2's. */
@@ -155,11 +168,11 @@ uint8_t suolluvik_materialize_glyph_metrics(const uint8_t *font, size_t font_len
                                             float *advance_at, float *origin_at);
 
 /* The advance height, the top side bearing and the vertical origin of a glyph, by the VVAR at the offset vvar. In the
- * synthesized case height and origin are `synthesized` times the scale, the bearing is 0 times the scale, and nothing else
- * is used; in the others `synthesized` is not. For the origin `unvaried` is the top side bearing, and y the glyph's yMax
- * with glyf, its origin there with VORG. As in swash the origin is (y + bearing) * scale with glyf, where the bearing is
- * scaled already, and y * scale with VORG; where there is no y (has_y is false) it is units_per_em * scale, with VORG as
- * a signed 16-bit number. */
+ * synthesized case height and origin are `synthesized`, the advance for the one and the origin for the other, times the
+ * scale; the bearing is 0 times the scale, and nothing else is used; in the others `synthesized` is not. For the origin
+ * `unvaried` is the top side bearing, and y the glyph's yMax with glyf, its origin there with VORG. As in swash the origin
+ * is (y + bearing) * scale with glyf, where the bearing is scaled already, and y * scale with VORG; where there is no y
+ * (has_y is false) it is units_per_em * scale, with VORG as a signed 16-bit number. */
 uint8_t suolluvik_advance_height(const uint8_t *font, size_t font_len, uint8_t vertical, uint32_t vvar,
                                  float synthesized, uint16_t glyph_id, const int16_t *coords, size_t coords_len,
                                  uint16_t unvaried, float scale, float *value);

@@ -6,7 +6,13 @@
 //! changes. Where nothing can be refused the value comes alone. None panics.
 //!
 //! A font is the whole file, and offsets count from its start; 0 says that there is no such table. `fvar` is that table
-//! alone. Coordinates are normalised, in 2.14; a missing one is 0. A 16.16 number is its raw integer.
+//! alone. Coordinates are normalised, in 2.14; a missing one is 0. A 16.16 number is its raw integer. A tag is the number
+//! that its four letters make, the first one highest: `u32::from_be_bytes(*b"wght")`.
+//!
+//! The thread's float environment rounds to nearest and flushes nothing to zero, as a Rust program's does.
+//!
+//! The answers are swash's, also where OpenType says something else, but for avar maps that OpenType does not allow;
+//! `docs/DIFFERENCES.md` has each such place.
 
 // `tests/prototypes` holds these to the library's source.
 mod exports {
@@ -352,8 +358,9 @@ delta! {
     sb_delta, suolluvik_sb_delta, glyph_id: u16, xvar, f32
 }
 delta! {
-    /// The delta of a measure as a 16.16 number, by its tag (the number that the four letters make), by the MVAR at the
-    /// offset mvar; an offset of 0 is opened like any other.
+    /// The delta of a measure as a 16.16 number, by its tag, by the MVAR at the offset mvar; an offset of 0 is opened like any
+    /// other. As in swash a record's two indices are taken in the other order than OpenType's: most records of real fonts are
+    /// refused by [`Refusal::Index`].
     mvar_delta_fixed, suolluvik_mvar_delta_fixed, tag: u32, mvar, i32
 }
 delta! {
@@ -451,7 +458,8 @@ pub fn axis_by_tag(fvar: &[u8], tag: u32) -> Result<Axis, Refusal> {
     answer(number, a)
 }
 
-/// Named instance in a variable font.
+/// Named instance in a variable font. As in swash the place of the PostScript name id is counted from the table's start and not
+/// from the record's, so it is some other number of the table.
 #[derive(Copy, Clone, PartialEq, Eq, Debug, Default)]
 pub struct Instance {
     pub index: u16,
@@ -500,7 +508,8 @@ pub fn instance_floats(fvar: &[u8], index: u16, out: &mut [f32]) -> Result<u16, 
 }
 
 /// The coordinates that settings give, `tags[s]` with `values[s]`, in the first elements of out; answers how many, at most 32.
-/// The last setting of a tag wins; an axis without one is at 0. avar is an offset in the font.
+/// The last setting of a tag wins; an axis without one is at 0; one with a tag that no axis has changes nothing; a NaN counts
+/// as 0. avar is an offset in the font.
 pub fn normalized_coords(
     fvar: &[u8],
     font: &[u8],
@@ -554,7 +563,8 @@ pub fn instance_coords(
     answer(number, count)
 }
 
-/// A font's measures: the library's record of thirteen floats, with swash's names.
+/// A font's measures: the library's record of thirteen floats, with swash's names; a descent is minus OpenType's descender. A
+/// later version may have more behind these: `..Metrics::default()` at the end of a record leaves room for them.
 #[derive(Copy, Clone, PartialEq, Debug, Default)]
 #[repr(C)]
 pub struct Metrics {
@@ -576,10 +586,12 @@ pub struct Metrics {
 /// A record goes to the library with how many floats it has.
 const METRICS_FLOATS: usize = std::mem::size_of::<Metrics>() / std::mem::size_of::<f32>();
 
-/// From the unvaried measures those at some coordinates, in place, by the MVAR at the offset mvar, 0 for none; the vertical
-/// ones are shifted only with vertical metrics. Where it does not open, or the coordinate list is empty, they stay.
+/// From the unvaried measures, in font units, those at some coordinates, in place, by the MVAR at the offset mvar, 0 for none;
+/// the vertical ones are shifted only with vertical metrics, which is to say if the font has a vhea. Where it does not open, or
+/// the coordinate list is empty, they stay; where a delta is refused, so does its measure. What is shifted already is shifted
+/// once more.
 ///
-/// This and the two below refuse nothing today. Should this file and the library once differ in the record's size, it is
+/// This and the two below refuse nothing today. Should this file's record once be longer than the library's, it is
 /// [`Refusal::Room`], and the measures are as they were.
 pub fn materialize_metrics(
     font: &[u8],
@@ -618,7 +630,8 @@ pub fn linear_scale_metrics(scale: f32, measures: &mut Metrics) -> Result<(), Re
 }
 
 /// What a font has for vertical type: vmtx and glyf, vmtx and VORG, or neither. `vvar` and `mvar` are offsets in the font, 0 for
-/// none; advance and origin are in font units.
+/// none; advance and origin are in font units. swash looks for vmtx only where there is a vhea, and for VORG before glyf; where
+/// it finds vmtx and neither of these, it synthesizes from zeros, with 0 for `mvar`.
 #[derive(Copy, Clone, PartialEq, Debug)]
 pub enum Vertical {
     VmtxGlyf {
@@ -669,8 +682,9 @@ impl Vertical {
 /// What is the same for all glyphs of a font. `hvar` is an offset in the font, 0 for none; a scale of 1 is font units. Each
 /// call is lent the font and the coordinates, and given the glyph's unvaried numbers.
 ///
-/// A refused delta is 0, as in swash, and the library refuses nothing else here but the number of a vertical case, of which
-/// [`Vertical`] has only its own: so the values come alone. On a refusal they would be 0.
+/// A refused delta is 0, as in swash. The library can refuse nothing else here but the number of a vertical case, and of these
+/// [`Vertical`] has only its own; so the vertical functions refuse nothing today, and answer a `Result` for the sake of a
+/// library that is newer than this file.
 #[derive(Copy, Clone, PartialEq, Debug)]
 pub struct GlyphMetrics {
     pub units_per_em: u16,
@@ -691,20 +705,21 @@ impl GlyphMetrics {
         GlyphMetrics { scale, ..self }
     }
 
-    /// From the unvaried ones those at some coordinates: a synthesized case is shifted by MVAR, all else stays.
-    pub fn materialize(self, font: &[u8], coords: &[i16]) -> GlyphMetrics {
+    /// From the unvaried ones those at some coordinates: a synthesized case is shifted by MVAR, all else stays. What is shifted
+    /// already is shifted once more.
+    pub fn materialize(self, font: &[u8], coords: &[i16]) -> Result<GlyphMetrics, Refusal> {
         let mvar = match self.vertical {
             Vertical::Synthesized { mvar, .. } => mvar,
-            _ => return self,
+            _ => return Ok(self),
         };
-        let (number, _) = self.vertical.number();
+        let (case, _) = self.vertical.number();
         let (advance, origin) = self.vertical.synthesized();
         let (mut advance_at, mut origin_at) = (0., 0.);
-        unsafe {
+        let number = unsafe {
             exports::suolluvik_materialize_glyph_metrics(
                 font.as_ptr(),
                 font.len(),
-                number,
+                case,
                 mvar,
                 coords.as_ptr(),
                 coords.len(),
@@ -719,7 +734,7 @@ impl GlyphMetrics {
             advance: advance_at,
             origin: origin_at,
         };
-        GlyphMetrics { vertical, ..self }
+        answer(number, GlyphMetrics { vertical, ..self })
     }
 
     /// The advance width of a glyph, from hmtx's.
@@ -755,15 +770,21 @@ impl GlyphMetrics {
     }
 
     /// The advance height of a glyph, from vmtx's; or the synthesized one.
-    pub fn advance_height(&self, font: &[u8], glyph_id: u16, coords: &[i16], unvaried: u16) -> f32 {
-        let (number, vvar) = self.vertical.number();
+    pub fn advance_height(
+        &self,
+        font: &[u8],
+        glyph_id: u16,
+        coords: &[i16],
+        unvaried: u16,
+    ) -> Result<f32, Refusal> {
+        let (case, vvar) = self.vertical.number();
         let (advance, _) = self.vertical.synthesized();
         let mut value = 0.;
-        unsafe {
+        let number = unsafe {
             exports::suolluvik_advance_height(
                 font.as_ptr(),
                 font.len(),
-                number,
+                case,
                 vvar,
                 advance,
                 glyph_id,
@@ -774,18 +795,24 @@ impl GlyphMetrics {
                 &mut value,
             )
         };
-        value
+        answer(number, value)
     }
 
     /// The top side bearing of a glyph, from vmtx's; or a synthesized 0, scaled too.
-    pub fn tsb(&self, font: &[u8], glyph_id: u16, coords: &[i16], unvaried: i16) -> f32 {
-        let (number, vvar) = self.vertical.number();
+    pub fn tsb(
+        &self,
+        font: &[u8],
+        glyph_id: u16,
+        coords: &[i16],
+        unvaried: i16,
+    ) -> Result<f32, Refusal> {
+        let (case, vvar) = self.vertical.number();
         let mut value = 0.;
-        unsafe {
+        let number = unsafe {
             exports::suolluvik_tsb(
                 font.as_ptr(),
                 font.len(),
-                number,
+                case,
                 vvar,
                 glyph_id,
                 coords.as_ptr(),
@@ -795,7 +822,7 @@ impl GlyphMetrics {
                 &mut value,
             )
         };
-        value
+        answer(number, value)
     }
 
     /// The vertical origin of a glyph, from its unvaried top side bearing and from y: its yMax with glyf, its origin there with
@@ -807,16 +834,16 @@ impl GlyphMetrics {
         coords: &[i16],
         unvaried: i16,
         y: Option<i16>,
-    ) -> f32 {
-        let (number, vvar) = self.vertical.number();
+    ) -> Result<f32, Refusal> {
+        let (case, vvar) = self.vertical.number();
         let (_, origin) = self.vertical.synthesized();
         let mut value = 0.;
-        unsafe {
+        let number = unsafe {
             exports::suolluvik_vertical_origin(
                 font.as_ptr(),
                 font.len(),
                 self.units_per_em,
-                number,
+                case,
                 vvar,
                 origin,
                 glyph_id,
@@ -829,6 +856,6 @@ impl GlyphMetrics {
                 &mut value,
             )
         };
-        value
+        answer(number, value)
     }
 }

@@ -57,14 +57,24 @@ static struct bytes bytes(const char *hex)
 #define H1_ROWS(words, region) "0001 0000000c 0001 00000010 0000 0001 0003" words "0001" region "0a0b0c"
 #define H1 MAPS MAP H1_ROWS("0000", "0000")
 
-/* An MVAR at 4 with the eleven measures, sorted; inner comes before outer. Its rows are words; S1's triple. */
+/* An HVAR at 4 and a VVAR at 90, each with two advances and two bearings. A row has a byte for the first axis, up to 1, and one
+ * for the second, down to -1. At 8192 and -4096, in this order, HVAR's rows are 55, 23, 3 and -2.5, VVAR's 32, 16, 11 and 3.5.
+ * A glyph past the first has the second entry of a map: 256, which is 0 in eight bits, has it too. */
+#define REGIONS "0002 0002 000040004000 000000000000 000000000000 c000c0000000"
+#define XVAR(rows) \
+    "00010000 00000010 0000004a 00000050 0001 0000000c 0001 00000028" REGIONS "0004 0000 0002 0000 0001" rows \
+    "0007 0002 0001 0007 0002 0203"
+#define BOTH "00000000" XVAR("6414 280c 0af8 e232") XVAR("3c08 1810 1404 0602")
+
+/* An MVAR at 4 with the eleven measures, sorted; inner comes before outer. Its rows have a word for the first axis, and a byte
+ * for the second, where a missing coordinate is 0. */
 #define MVAR_HEADER(count, store) "00000000 0001 0000 0000 0008" count store
 #define RECORDS \
     "63706874 0000 0000 68617363 0001 0000 68647363 0002 0000 686c6770 0003 0000 7374726f 0004 0000 756e646f 0005 0000" \
     "756e6473 0006 0000 76617363 0007 0000 76647363 0008 0000 766c6770 0009 0000 78686774 000a 0000"
 #define ROWS(words) \
-    "0001 0000000c 0001 00000016 0001 0001 000040004000 000b" words "0001 0000" \
-    "0028 0064 ffc4 000a 000c fff8 0006 00c8 ff9c 000e 001e"
+    "0001 0000000c 0001 00000028" REGIONS "000b" words "0002 0000 0001" \
+    "002801 006402 ffc403 000a05 000c06 fff807 000609 00c80a ff9c0b 000e0d 001e0e"
 #define MEASURES MVAR_HEADER("000b", "0064") RECORDS ROWS("0001")
 #define ONE_RECORD(tail) MVAR_HEADER("0001", "0014") "68617363" tail "0001 0000000c 0001 00000016"
 
@@ -79,59 +89,69 @@ struct delta {
     const char *name, *font;
     uint32_t offset, id;
     size_t coords_len;
-    int16_t coord;
+    int16_t coords[2];
     uint8_t number;
     int32_t value;
 };
 
 static const struct delta deltas[] = {
-    {ADVANCE, "S1 at 8192", S1, 4, 0, 1, 8192, 0, 3276800},
-    {ADVANCE, "S1 at 16384", S1, 4, 0, 1, 16384, 0, 6553600},
-    {ADVANCE, "S1 at 0", S1, 4, 0, 1, 0, 0, 0},
-    {ADVANCE, "S1 at -1", S1, 4, 0, 1, -1, 0, 0},
-    {ADVANCE, "S1, no coordinates", S1, 4, 0, 0, 0, 0, 0},
-    {ADVANCE, "S2", S2, 4, 0, 1, 4096, 0, 65535},
-    {ADVANCE, "S3", S3, 4, 0, 1, 4096, 0, 196608},
-    {ADVANCE, "S3, no coordinates", S3, 4, 0, 0, 0, 0, 196608},
-    {ADVANCE, "S4", S4, 4, 0, 1, 0, 0, -131072},
-    {ADVANCE, "S5", S5, 4, 0, 1, 0, 0, 0},
-    {ADVANCE, "H1, glyph 0", H1, 4, 0, 0, 0, 0, 655360},
-    {ADVANCE, "H1, glyph 1", H1, 4, 1, 0, 0, 0, 720896},
-    {ADVANCE, "H1, glyph 2", H1, 4, 2, 0, 0, 0, 786432},
-    {ADVANCE, "H1, glyph 3", H1, 4, 3, 0, 0, 0, 786432},
-    {ADVANCE, "H1, glyph 65535", H1, 4, 65535, 0, 0, 0, 786432},
-    {ADVANCE, "no HVAR", S1, 0, 0, 1, 8192, 1, 0},
-    {ADVANCE, "no store", HVAR("00000000", "00000000", "00000000"), 4, 0, 1, 8192, 1, 0},
-    {ADVANCE, "an empty font", "", 4, 0, 1, 8192, 2, 0},
-    {ADVANCE, "S1 without its entry", PLAIN STORE("000040004000", ""), 4, 0, 1, 8192, 2, 0},
-    {ADVANCE, "an offset far past the end", S1, 0xffffffff, 0, 1, 8192, 2, 0},
-    {ADVANCE, "no subtable", PLAIN "0001 0000000c 0000 00000016", 4, 0, 1, 8192, 3, 0},
-    {ADVANCE, "a region past the count", MAPS MAP H1_ROWS("0000", "0001"), 4, 0, 0, 0, 3, 0},
-    {ADVANCE, "a map without entries", MAPS "0007 0000" H1_ROWS("0000", "0000"), 4, 0, 0, 0, 5, 0},
-    {ADVANCE, "more words than regions", MAPS MAP H1_ROWS("0002", "0000"), 4, 0, 0, 0, 5, 0},
-    {ADVANCE, "a store at 2^32", HVAR("fffffffc", "00000000", "00000000"), 4, 0, 0, 0, 5, 0},
-    {BEARING, "H1, glyph 0", H1, 4, 0, 0, 0, 0, 655360},
-    {BEARING, "H1, glyph 1", H1, 4, 1, 0, 0, 0, 720896},
-    {BEARING, "H1, glyph 65535", H1, 4, 65535, 0, 0, 0, 786432},
-    {BEARING, "no HVAR", H1, 0, 0, 0, 0, 1, 0},
-    {BEARING, "no store", HVAR("00000000", "00000010", "00000010") MAP, 4, 0, 0, 0, 1, 0},
-    {BEARING, "no map: S1", S1, 4, 0, 1, 8192, 1, 0},
-    {BEARING, "a font that ends in the HVAR", "00000000 00010000 00000018 00000010 000000", 4, 0, 0, 0, 2, 0},
-    {BEARING, "a region past the count", MAPS MAP H1_ROWS("0000", "0001"), 4, 0, 0, 0, 3, 0},
-    {BEARING, "a map without entries", MAPS "0007 0000" H1_ROWS("0000", "0000"), 4, 0, 0, 0, 5, 0},
-    {BEARING, "more words than regions", MAPS MAP H1_ROWS("0002", "0000"), 4, 0, 0, 0, 5, 0},
-    {MEASURE, "hasc halfway", MEASURES, 4, HASC, 1, 8192, 0, 3276800},
-    {MEASURE, "hasc", MEASURES, 4, HASC, 1, 16384, 0, 6553600},
-    {MEASURE, "xhgt, the last one", MEASURES, 4, XHGT, 1, 16384, 0, 1966080},
-    {MEASURE, "hasc, no coordinates", MEASURES, 4, HASC, 0, 0, 0, 0},
-    {MEASURE, "an MVAR at 0", "0001 0000 0000 0008 0001 0014 68617363 0000 0000" STORE("000040004000", "64"), 0, HASC, 1, 8192, 0, 3276800},
-    {MEASURE, "no records", MVAR_HEADER("0000", "0064") RECORDS ROWS("0001"), 4, HASC, 1, 8192, 1, 0},
-    {MEASURE, "no store", MVAR_HEADER("000b", "0000") RECORDS ROWS("0001"), 4, HASC, 1, 8192, 1, 0},
-    {MEASURE, "an offset past the end", MEASURES, 255, HASC, 1, 8192, 2, 0},
-    {MEASURE, "a font that ends in the header", "00000000 0001 0000 0000 0008 000b 00", 4, HASC, 1, 8192, 2, 0},
-    {MEASURE, "a subtable past the count", ONE_RECORD("0000 0001"), 4, HASC, 1, 8192, 3, 0},
-    {MEASURE, "another tag", MEASURES, 4, TAG('s', 't', 'r', 's'), 1, 8192, 4, 0},
-    {MEASURE, "more words than regions", MVAR_HEADER("000b", "0064") RECORDS ROWS("0002"), 4, HASC, 1, 8192, 5, 0},
+    {ADVANCE, "S1 at 8192", S1, 4, 0, 1, {8192}, 0, 3276800},
+    {ADVANCE, "S1 at 16384", S1, 4, 0, 1, {16384}, 0, 6553600},
+    {ADVANCE, "S1 at 0", S1, 4, 0, 1, {0}, 0, 0},
+    {ADVANCE, "S1 at -1", S1, 4, 0, 1, {-1}, 0, 0},
+    {ADVANCE, "S1, no coordinates", S1, 4, 0, 0, {0}, 0, 0},
+    {ADVANCE, "S2", S2, 4, 0, 1, {4096}, 0, 65535},
+    {ADVANCE, "S3", S3, 4, 0, 1, {4096}, 0, 196608},
+    {ADVANCE, "S3, no coordinates", S3, 4, 0, 0, {0}, 0, 196608},
+    {ADVANCE, "S4", S4, 4, 0, 1, {0}, 0, -131072},
+    {ADVANCE, "S5", S5, 4, 0, 1, {0}, 0, 0},
+    {ADVANCE, "H1, glyph 0", H1, 4, 0, 0, {0}, 0, 655360},
+    {ADVANCE, "H1, glyph 1", H1, 4, 1, 0, {0}, 0, 720896},
+    {ADVANCE, "H1, glyph 2", H1, 4, 2, 0, {0}, 0, 786432},
+    {ADVANCE, "H1, glyph 3", H1, 4, 3, 0, {0}, 0, 786432},
+    {ADVANCE, "H1, glyph 65535", H1, 4, 65535, 0, {0}, 0, 786432},
+    {ADVANCE, "no HVAR", S1, 0, 0, 1, {8192}, 1, 0},
+    {ADVANCE, "no store", HVAR("00000000", "00000000", "00000000"), 4, 0, 1, {8192}, 1, 0},
+    {ADVANCE, "an empty font", "", 4, 0, 1, {8192}, 2, 0},
+    {ADVANCE, "S1 without its entry", PLAIN STORE("000040004000", ""), 4, 0, 1, {8192}, 2, 0},
+    {ADVANCE, "an offset far past the end", S1, 0xffffffff, 0, 1, {8192}, 2, 0},
+    {ADVANCE, "no subtable", PLAIN "0001 0000000c 0000 00000016", 4, 0, 1, {8192}, 3, 0},
+    {ADVANCE, "a region past the count", MAPS MAP H1_ROWS("0000", "0001"), 4, 0, 0, {0}, 3, 0},
+    {ADVANCE, "a map without entries", MAPS "0007 0000" H1_ROWS("0000", "0000"), 4, 0, 0, {0}, 5, 0},
+    {ADVANCE, "more words than regions", MAPS MAP H1_ROWS("0002", "0000"), 4, 0, 0, {0}, 5, 0},
+    {ADVANCE, "a store at 2^32", HVAR("fffffffc", "00000000", "00000000"), 4, 0, 0, {0}, 5, 0},
+    {BEARING, "H1, glyph 0", H1, 4, 0, 0, {0}, 0, 655360},
+    {BEARING, "H1, glyph 1", H1, 4, 1, 0, {0}, 0, 720896},
+    {BEARING, "H1, glyph 65535", H1, 4, 65535, 0, {0}, 0, 786432},
+    {BEARING, "no HVAR", H1, 0, 0, 0, {0}, 1, 0},
+    {BEARING, "no store", HVAR("00000000", "00000010", "00000010") MAP, 4, 0, 0, {0}, 1, 0},
+    {BEARING, "no map: S1", S1, 4, 0, 1, {8192}, 1, 0},
+    {BEARING, "a font that ends in the HVAR", "00000000 00010000 00000018 00000010 000000", 4, 0, 0, {0}, 2, 0},
+    {BEARING, "a region past the count", MAPS MAP H1_ROWS("0000", "0001"), 4, 0, 0, {0}, 3, 0},
+    {BEARING, "a map without entries", MAPS "0007 0000" H1_ROWS("0000", "0000"), 4, 0, 0, {0}, 5, 0},
+    {BEARING, "more words than regions", MAPS MAP H1_ROWS("0002", "0000"), 4, 0, 0, {0}, 5, 0},
+    {ADVANCE, "HVAR, two axes", BOTH, 4, 0, 2, {8192, -4096}, 0, 3604480},
+    {ADVANCE, "HVAR, glyph 256", BOTH, 4, 256, 2, {8192, -4096}, 0, 1507328},
+    {ADVANCE, "VVAR, two axes", BOTH, 90, 0, 2, {8192, -4096}, 0, 2097152},
+    {ADVANCE, "VVAR, glyph 256", BOTH, 90, 256, 2, {8192, -4096}, 0, 1048576},
+    {BEARING, "HVAR, two axes", BOTH, 4, 0, 2, {8192, -4096}, 0, 196608},
+    {BEARING, "HVAR, glyph 256", BOTH, 4, 256, 2, {8192, -4096}, 0, -163840},
+    {BEARING, "VVAR, two axes", BOTH, 90, 0, 2, {8192, -4096}, 0, 720896},
+    {BEARING, "VVAR, glyph 256", BOTH, 90, 256, 2, {8192, -4096}, 0, 229376},
+    {MEASURE, "hasc, two axes", MEASURES, 4, HASC, 2, {8192, -4096}, 0, 3309568},
+    {MEASURE, "hdsc, two axes", MEASURES, 4, TAG('h', 'd', 's', 'c'), 2, {8192, -4096}, 0, -1916928},
+    {MEASURE, "hasc halfway", MEASURES, 4, HASC, 1, {8192}, 0, 3276800},
+    {MEASURE, "hasc", MEASURES, 4, HASC, 1, {16384}, 0, 6553600},
+    {MEASURE, "xhgt, the last one", MEASURES, 4, XHGT, 1, {16384}, 0, 1966080},
+    {MEASURE, "hasc, no coordinates", MEASURES, 4, HASC, 0, {0}, 0, 0},
+    {MEASURE, "an MVAR at 0", "0001 0000 0000 0008 0001 0014 68617363 0000 0000" STORE("000040004000", "64"), 0, HASC, 1, {8192}, 0, 3276800},
+    {MEASURE, "no records", MVAR_HEADER("0000", "0064") RECORDS ROWS("0001"), 4, HASC, 1, {8192}, 1, 0},
+    {MEASURE, "no store", MVAR_HEADER("000b", "0000") RECORDS ROWS("0001"), 4, HASC, 1, {8192}, 1, 0},
+    {MEASURE, "an offset past the end", MEASURES, 255, HASC, 1, {8192}, 2, 0},
+    {MEASURE, "a font that ends in the header", "00000000 0001 0000 0000 0008 000b 00", 4, HASC, 1, {8192}, 2, 0},
+    {MEASURE, "a subtable past the count", ONE_RECORD("0000 0001"), 4, HASC, 1, {8192}, 3, 0},
+    {MEASURE, "another tag", MEASURES, 4, TAG('s', 't', 'r', 's'), 1, {8192}, 4, 0},
+    {MEASURE, "more words than regions", MVAR_HEADER("000b", "0064") RECORDS ROWS("0003"), 4, HASC, 1, {8192}, 5, 0},
 };
 
 static void try_deltas(void)
@@ -148,16 +168,16 @@ static void try_deltas(void)
         uint8_t number = 99, number_of_real = 99;
         switch (d->kind) {
         case ADVANCE:
-            number = suolluvik_advance_delta_fixed(font.at, font.len, d->offset, glyph, &d->coord, d->coords_len, &value);
-            number_of_real = suolluvik_advance_delta(font.at, font.len, d->offset, glyph, &d->coord, d->coords_len, &real);
+            number = suolluvik_advance_delta_fixed(font.at, font.len, d->offset, glyph, d->coords, d->coords_len, &value);
+            number_of_real = suolluvik_advance_delta(font.at, font.len, d->offset, glyph, d->coords, d->coords_len, &real);
             break;
         case BEARING:
-            number = suolluvik_sb_delta_fixed(font.at, font.len, d->offset, glyph, &d->coord, d->coords_len, &value);
-            number_of_real = suolluvik_sb_delta(font.at, font.len, d->offset, glyph, &d->coord, d->coords_len, &real);
+            number = suolluvik_sb_delta_fixed(font.at, font.len, d->offset, glyph, d->coords, d->coords_len, &value);
+            number_of_real = suolluvik_sb_delta(font.at, font.len, d->offset, glyph, d->coords, d->coords_len, &real);
             break;
         case MEASURE:
-            number = suolluvik_mvar_delta_fixed(font.at, font.len, d->offset, d->id, &d->coord, d->coords_len, &value);
-            number_of_real = suolluvik_mvar_delta(font.at, font.len, d->offset, d->id, &d->coord, d->coords_len, &real);
+            number = suolluvik_mvar_delta_fixed(font.at, font.len, d->offset, d->id, d->coords, d->coords_len, &value);
+            number_of_real = suolluvik_mvar_delta(font.at, font.len, d->offset, d->id, d->coords, d->coords_len, &real);
             break;
         }
         check(number == d->number && value == d->value, names[d->kind][0], d->name);
@@ -171,11 +191,15 @@ static void try_deltas(void)
 /* A header: how many axes, of which size, how many instances, of which size. */
 #define FVAR(axes, size, instances, instance_size) "00010000 0010 0002" axes size instances instance_size
 #define WGHT "77676874 00640000 01900000 03840000 0000 0100"
-#define SLNT "736c6e74 fff60000 00000000 00000000 0001 0101"
-/* Document 01's listing; a second axis; instances with a PostScript name id, at 700 and at 650. */
+#define SLNT "736c6e74 fff60000 00000000 00000000 0003 0101"
+#define BELOW "62656c6f fff68000 fffcc000 ffff4000 8003 8102"
+/* Document 01's listing; a second axis; a third one, all below 0; instances with a PostScript name id, at 700 and at 650; one
+ * of 32768 that are counted. */
 #define LISTED FVAR("0001", "0014", "0000", "0008") WGHT
 #define TWO FVAR("0002", "0014", "0001", "000c") WGHT SLNT "0102 0000 028a0000 fffb0000"
+#define THREE FVAR("0003", "0014", "0000", "0010") WGHT SLNT BELOW
 #define NAMED FVAR("0001", "0014", "0002", "000a") WGHT "0101 0000 02bc0000 0111 0102 0000 028a0000 0112"
+#define MANY FVAR("0001", "0014", "8000", "000a") WGHT "0101 0000 02bc0000 0111"
 #define UNSIZED(size) FVAR("0001", "0014", "0001", size) WGHT "0102 0000 028a0000"
 /* N2's axis and N3's, whose instance is at min. */
 #define N2 FVAR("0001", "0014", "0001", "0008") "77676874 00000000 00000000 00000000 0000 0100 0102 0000 00050000"
@@ -227,12 +251,15 @@ static void try_tag(const char *name, const char *hex, uint32_t tag, uint8_t num
 static void try_axes(void)
 {
     try_axis("document 01's listing", LISTED, 0, 0, 0x77676874, 6553600, 26214400, 58982400, 0, 256);
-    try_axis("the second one", TWO, 1, 0, SLANT, -655360, 0, 0, 1, 257);
+    try_axis("the second one", TWO, 1, 0, SLANT, -655360, 0, 0, 3, 257);
+    try_axis("the third one", THREE, 2, 0, TAG('b', 'e', 'l', 'o'), -622592, -212992, -49152, 0x8003, 0x8102);
     try_axis("cut", FVAR("0001", "0014", "0000", "0008") "77676874 00640000 01900000 03840000 0000 01", 0, 2, 0, 0, 0,
              0, 0, 0);
     try_axis("past the count", LISTED, 1, 3, 0, 0, 0, 0, 0, 0);
+    try_axis("past a count of 32768", FVAR("8000", "0000", "0000", "0008") WGHT, 32768, 3, 0, 0, 0, 0, 0, 0);
     try_tag("document 01's listing", LISTED, WEIGHT, 0, 0, 6553600, 26214400, 58982400, 0, 256);
-    try_tag("the second one", TWO, SLANT, 0, 1, -655360, 0, 0, 1, 257);
+    try_tag("the second one", TWO, SLANT, 0, 1, -655360, 0, 0, 3, 257);
+    try_tag("the third one", THREE, TAG('b', 'e', 'l', 'o'), 0, 2, -622592, -212992, -49152, 0x8003, 0x8102);
     try_tag("another tag", TWO, TAG('w', 'd', 't', 'h'), 4, 0, 0, 0, 0, 0, 0);
     try_tag("cut", FVAR("0001", "0014", "0000", "0008") "77676874 00640000", WEIGHT, 4, 0, 0, 0, 0, 0, 0);
     check(suolluvik_fixed_to_f32(6553600) == 100.0f, "fixed_to_f32", "100");
@@ -267,12 +294,15 @@ static void try_floats(const char *name, const char *hex, uint16_t index, size_t
 
 static void try_instances(void)
 {
-    /* the id is read at 8 from the table's start, where the axis count stands */
+    /* the id is read at 8 from the table's start, where the axis count stands; without axes at 4, with two at 12 */
     try_instance("with a PostScript name", NAMED, 0, 0, 0x101, 1, 1);
     try_instance("the second one", NAMED, 1, 0, 0x102, 1, 1);
+    try_instance("with a PostScript name id of 0", "00010000 0000 0002 0000 0014 0001 0006", 0, 0, 1, 1, 0);
+    try_instance("with a PostScript name id of 513", FVAR("0002", "0000", "0201", "000e") WGHT, 0, 0, 0x7767, 1, 513);
     try_instance("without a PostScript name", TWO, 0, 0, 0x102, 0, 0);
     try_instance("cut", FVAR("0001", "0014", "0001", "0008") WGHT "0102 0000 028a00", 0, 2, 0, 0, 0);
     try_instance("past the count", NAMED, 2, 3, 0, 0, 0);
+    try_instance("past a count of 32768", MANY, 32768, 3, 0, 0, 0);
     try_instance("of size 0", UNSIZED("0000"), 0, 5, 0, 0, 0);
     try_instance("of size 1", UNSIZED("0001"), 0, 5, 0, 0, 0);
     try_floats("one axis, the list is just long enough", NAMED, 0, 1, 0, 1, 700, -77);
@@ -280,6 +310,7 @@ static void try_instances(void)
     try_floats("two axes", TWO, 0, 2, 0, 2, 650, -5);
     try_floats("cut", FVAR("0001", "0014", "0001", "0008") WGHT "0102 0000 028a00", 0, 2, 2, 0, -77, -77);
     try_floats("past the count", NAMED, 2, 2, 3, 0, -77, -77);
+    try_floats("past a count of 32768", MANY, 32768, 2, 3, 0, -77, -77);
     try_floats("of size 1", UNSIZED("0001"), 0, 2, 5, 0, -77, -77);
     try_floats("a list that is too short", TWO, 0, 1, 7, 0, -77, -77);
     try_floats("an empty list", NAMED, 0, 0, 7, 0, -77, -77);
@@ -366,6 +397,7 @@ static void try_coords(void)
     try_instance_coords("N2", N2, 0, 0, 2, 0, 1, 0, -77);
     try_instance_coords("cut", FVAR("0001", "0014", "0001", "0008") WGHT "0102 0000 028a00", 0, 0, 2, 2, 0, -77, -77);
     try_instance_coords("past the count", NAMED, 0, 2, 2, 3, 0, -77, -77);
+    try_instance_coords("past a count of 32768", MANY, 0, 32768, 2, 3, 0, -77, -77);
     try_instance_coords("of size 1", UNSIZED("0001"), 0, 0, 2, 5, 0, -77, -77);
     try_instance_coords("N3", N3, 0, 0, 2, 5, 0, -77, -77);
     try_instance_coords("a list that is too short", TWO, 0, 0, 1, 7, 0, -77, -77);
@@ -374,10 +406,14 @@ static void try_coords(void)
 
 /* Measures. */
 
-static const suolluvik_metrics unvaried = {800, 200, 90, 500, 400, 0, 700, 500, 550, 1200, -100, 300, 50};
-/* the rows of MEASURES at 8192, each a half of its entry: + 50, - 30, + 5, + 100, - 50, + 7, + 20, + 15, - 4, + 6, + 3 */
-static const suolluvik_metrics varied = {850, 170, 95, 600, 350, 7, 720, 515, 550, 1200, -104, 306, 53};
-static const suolluvik_metrics no_vertical = {850, 170, 95, 500, 400, 0, 720, 515, 550, 1200, -104, 306, 53};
+/* no two are the same, and none is 0 */
+static const suolluvik_metrics unvaried = {800, 200, 90, 520, 400, 60, 700, 500, 550, 1200, -100, 300, 50};
+/* the rows of MEASURES at 8192, each a half of its word: + 50, - 30, + 5, + 100, - 50, + 7, + 20, + 15, - 4, + 6, + 3 */
+static const suolluvik_metrics varied = {850, 170, 95, 620, 350, 67, 720, 515, 550, 1200, -104, 306, 53};
+static const suolluvik_metrics no_vertical = {850, 170, 95, 520, 400, 60, 720, 515, 550, 1200, -104, 306, 53};
+/* and at -4096 on the second axis a quarter of its byte more */
+static const suolluvik_metrics varied_twice = {850.5f, 170.75f, 96.25f, 622.5f,   352.75f, 70.25f, 720.25f,
+                                               518.5f, 550,     1200,   -102.25f, 307.5f,  55.25f};
 
 enum change { MATERIALIZE, MATERIALIZE_VERTICAL, SCALE, LINEAR_SCALE };
 
@@ -389,6 +425,7 @@ static void try_measures(const char *name, enum change change, const char *hex, 
     static const char *const names[] = {"materialize_metrics", "materialize_metrics", "scale_metrics",
                                         "linear_scale_metrics"};
     struct bytes font = bytes(hex);
+    int16_t coords[2];
     struct {
         suolluvik_metrics measures;
         float behind;
@@ -397,6 +434,7 @@ static void try_measures(const char *name, enum change change, const char *hex, 
     uint8_t found;
     size_t i;
     int same;
+    coords[0] = coord, coords[1] = -4096;
     record.measures = unvaried;
     record.behind = -77;
     if (change == SCALE)
@@ -404,7 +442,7 @@ static void try_measures(const char *name, enum change change, const char *hex, 
     else if (change == LINEAR_SCALE)
         found = suolluvik_linear_scale_metrics(scale, &record.measures, len);
     else
-        found = suolluvik_materialize_metrics(font.at, font.len, mvar, &coord, coords_len,
+        found = suolluvik_materialize_metrics(font.at, font.len, mvar, coords, coords_len,
                                               change == MATERIALIZE_VERTICAL, &record.measures, len);
     memcpy(found_floats, &record.measures, sizeof found_floats);
     memcpy(expected_floats, &expected, sizeof expected_floats);
@@ -420,6 +458,7 @@ static void try_all_measures(void)
     check(SUOLLUVIK_METRICS_FLOATS == 13, "suolluvik_metrics", "thirteen floats");
     try_measures("13, vertical", vertical, MEASURES, 4, 8192, 1, 0, 0, 13, 0, varied, 1);
     try_measures("13, not vertical", plain, MEASURES, 4, 8192, 1, 0, 0, 13, 0, no_vertical, 1);
+    try_measures("13, two axes", vertical, MEASURES, 4, 8192, 2, 0, 0, 13, 0, varied_twice, 1);
     try_measures("12", vertical, MEASURES, 4, 8192, 1, 0, 0, 12, 7, unvaried, 1);
     try_measures("14", vertical, MEASURES, 4, 8192, 1, 0, 0, 14, 7, unvaried, 1);
     try_measures("no float", vertical, MEASURES, 4, 8192, 1, 0, 0, 0, 7, unvaried, 1);
@@ -428,15 +467,16 @@ static void try_all_measures(void)
     try_measures("no coordinates, 14", vertical, MEASURES, 4, 8192, 0, 0, 0, 14, 7, unvaried, 1);
     try_measures("no MVAR", vertical, MEASURES, 0, 8192, 1, 0, 0, 13, 0, unvaried, 1);
     try_measures("an MVAR that does not open", vertical, MEASURES, 255, 8192, 1, 0, 0, 13, 0, unvaried, 1);
-    try_measures("refused deltas", vertical, MVAR_HEADER("000b", "0064") RECORDS ROWS("0002"), 4, 8192, 1, 0, 0, 13, 0,
+    try_measures("refused deltas", vertical, MVAR_HEADER("000b", "0064") RECORDS ROWS("0003"), 4, 8192, 1, 0, 0, 13, 0,
                  unvaried, 1);
     try_measures("16 over 2048", SCALE, "", 0, 0, 0, 2048, 16, 13, 0, unvaried, 0.0078125f);
     try_measures("16 over 2000", SCALE, "", 0, 0, 0, 2000, 16, 13, 0, unvaried, 16.0f / 2000.0f);
+    try_measures("-12.5 over 40000", SCALE, "", 0, 0, 0, 40000, -12.5f, 13, 0, unvaried, -12.5f / 40000.0f);
     try_measures("no units per em", SCALE, "", 0, 0, 0, 0, 16, 13, 0, unvaried, 1);
     try_measures("12", SCALE, "", 0, 0, 0, 2048, 16, 12, 7, unvaried, 1);
     try_measures("14", SCALE, "", 0, 0, 0, 2048, 16, 14, 7, unvaried, 1);
     try_measures("by -3", LINEAR_SCALE, "", 0, 0, 0, 0, -3, 13, 0, unvaried, -3);
-    try_measures("by 0.1", LINEAR_SCALE, "", 0, 0, 0, 0, 0.1f, 13, 0, unvaried, 0.1f);
+    try_measures("by 0.123", LINEAR_SCALE, "", 0, 0, 0, 0, 0.123f, 13, 0, unvaried, 0.123f);
     try_measures("12", LINEAR_SCALE, "", 0, 0, 0, 0, 2, 12, 7, unvaried, 1);
     try_measures("14", LINEAR_SCALE, "", 0, 0, 0, 0, 2, 14, 7, unvaried, 1);
 }
@@ -446,8 +486,6 @@ static void try_all_measures(void)
 /* H1 with a map of its own for bearings: at all coordinates the advances of its glyphs vary by 10, 11 and 12, and every
  * bearing by 12. */
 #define GLYPHS HVAR("00000018", "00000010", "00000033") MAP H1_ROWS("0000", "0000") "0007 0001 02"
-/* S1 with a map for bearings: at 8192 advance and bearing vary by 50. */
-#define HALFWAY HVAR("00000010", "00000000", "0000002f") STORE("000040004000", "64") "0007 0001 00"
 /* An MVAR at 4 that varies at all coordinates: hasc by 2, hdsc by 3; and one without records. */
 #define ALWAYS(records) \
     MVAR_HEADER(records, "0064") RECORDS \
@@ -463,22 +501,20 @@ static int same_float(float found, float expected)
 
 static void try_widths(void)
 {
-    struct bytes font = bytes(GLYPHS), half = bytes(HALFWAY), far = bytes("00000000 00010000 fffffffc");
+    struct bytes font = bytes(GLYPHS), far = bytes("00000000 00010000 fffffffc");
     int16_t coord = 8192;
     check(same_float(suolluvik_advance_width(font.at, font.len, 4, 0, &coord, 0, 500, 2), 1020), "advance_width",
           "(500 + 10) * 2");
-    check(same_float(suolluvik_advance_width(half.at, half.len, 4, 0, &coord, 1, 65535, 1), 65585), "advance_width",
-          "at 8192, the largest");
     check(same_float(suolluvik_advance_width(font.at, font.len, 0, 0, &coord, 1, 500, 2), 1000), "advance_width",
           "no HVAR: unvaried");
     check(same_float(suolluvik_advance_width(far.at, far.len, 4, 0, &coord, 1, 500, 1), 500), "advance_width",
           "a refused delta");
     check(same_float(suolluvik_lsb(font.at, font.len, 4, 0, &coord, 0, -20, 2), -16), "lsb", "(-20 + 12) * 2");
-    check(same_float(suolluvik_lsb(half.at, half.len, 4, 0, &coord, 1, -32768, 0.5f), -16359), "lsb",
-          "at 8192, the least");
     check(same_float(suolluvik_lsb(font.at, font.len, 0, 0, &coord, 1, -32768, 0.5f), -16384), "lsb", "no HVAR");
     check(same_float(suolluvik_scale_glyph_metrics(1000, 2000), 2), "scale_glyph_metrics", "2000 over 1000");
     check(same_float(suolluvik_scale_glyph_metrics(2048, 16), 0.0078125f), "scale_glyph_metrics", "16 over 2048");
+    check(same_float(suolluvik_scale_glyph_metrics(40000, -12.5f), -12.5f / 40000.0f), "scale_glyph_metrics",
+          "-12.5 over 40000");
     check(same_float(suolluvik_scale_glyph_metrics(0, NAN), 1), "scale_glyph_metrics", "no units per em");
     check(same_float(suolluvik_scale_glyph_metrics(1000, -INFINITY), -INFINITY), "scale_glyph_metrics", "infinite");
 }
@@ -501,13 +537,14 @@ static void try_top(const char *name, uint8_t vertical, uint32_t vvar, float sca
     check(found == number && same_float(value, expected), "tsb", name);
 }
 
+/* The scale is -2.5. */
 static void try_origin(const char *name, uint16_t units_per_em, uint8_t vertical, uint32_t vvar, float synthesized,
                        bool has_y, int16_t y, uint8_t number, float expected)
 {
     struct bytes font = bytes(GLYPHS);
     float value = 123.5f;
     uint8_t found = suolluvik_vertical_origin(font.at, font.len, units_per_em, vertical, vvar, synthesized, 0, NULL, 0,
-                                              1, has_y, y, 2, &value);
+                                              1, has_y, y, -2.5f, &value);
     check(found == number && same_float(value, expected), "vertical_origin", name);
 }
 
@@ -515,56 +552,64 @@ static void try_made(const char *name, const char *hex, uint8_t vertical, uint32
                      float advance, float origin, uint8_t number, float advance_at, float origin_at)
 {
     struct bytes font = bytes(hex);
-    int16_t coord = 8192;
+    int16_t coords[] = {8192, -4096};
     float found_advance = 123.5f, found_origin = 123.5f;
-    uint8_t found = suolluvik_materialize_glyph_metrics(font.at, font.len, vertical, mvar, &coord, coords_len, advance,
+    uint8_t found = suolluvik_materialize_glyph_metrics(font.at, font.len, vertical, mvar, coords, coords_len, advance,
                                                         origin, &found_advance, &found_origin);
     check(found == number && same_float(found_advance, advance_at) && same_float(found_origin, origin_at),
           "materialize_glyph_metrics", name);
 }
 
+/* The metrics of a glyph at 8192 and -4096, by BOTH, at a scale of -0.5; y is -5. */
+static void try_glyph(const char *name, uint16_t glyph, float width, float left, float height, float top, float origin)
+{
+    struct bytes font = bytes(BOTH);
+    int16_t at[] = {8192, -4096};
+    uint8_t vertical;
+    float value = 123.5f;
+    check(same_float(suolluvik_advance_width(font.at, font.len, 4, glyph, at, 2, 65534, -0.5f), width), "advance_width", name);
+    check(same_float(suolluvik_lsb(font.at, font.len, 4, glyph, at, 2, -32768, -0.5f), left), "lsb", name);
+    for (vertical = GLYF; vertical <= VORG; vertical++) {
+        check(suolluvik_advance_height(font.at, font.len, vertical, 90, 0, glyph, at, 2, 40001, -0.5f, &value) == 0 && same_float(value, height), "advance_height", name);
+        check(suolluvik_tsb(font.at, font.len, vertical, 90, glyph, at, 2, -300, -0.5f, &value) == 0 && same_float(value, top), "tsb", name);
+        check(suolluvik_vertical_origin(font.at, font.len, 1000, vertical, 90, 0, glyph, at, 2, -300, true, -5, -0.5f, &value) == 0 && same_float(value, vertical == VORG ? 2.5f : origin), "vertical_origin", name);
+    }
+}
+
 static void try_vertical(void)
 {
-    struct bytes half = bytes(HALFWAY);
-    int16_t coord = 8192;
-    float advance = 123.5f, origin = 123.5f, value = 123.5f;
+    float advance = 123.5f, origin = 123.5f;
     check(GLYF == 0 && VORG == 1 && MADE == 2, "suolluvik_vertical", "numbers");
 
     try_height("glyf, by VVAR", GLYF, 4, 1000, 2, 0, 1022);
     try_height("VORG, by VVAR", VORG, 4, 1000, 2, 0, 1022);
+    try_height("glyf, no VVAR", GLYF, 0, 1000, 2, 0, 1000);
     try_height("VORG, no VVAR", VORG, 0, 1000, 2, 0, 1000);
-    try_height("synthesized", MADE, 4, 1000, 2, 0, 2000);
+    try_height("synthesized", MADE, 4, -1000.5f, -2.5f, 0, 2501.25f);
     try_height("vertical case 3", 3, 4, 1000, 2, 3, 0);
     try_height("vertical case 255", 255, 4, 1000, 2, 3, 0);
-
-    check(suolluvik_advance_height(half.at, half.len, GLYF, 4, 0, 0, &coord, 1, 600, 1, &value) == 0 && value == 650,
-          "advance_height", "at 8192");
 
     try_top("glyf, by VVAR", GLYF, 4, 2, 0, -16);
     try_top("VORG, by VVAR", VORG, 4, 2, 0, -16);
     try_top("glyf, no VVAR", GLYF, 0, 2, 0, -40);
+    try_top("VORG, no VVAR", VORG, 0, 2, 0, -40);
     try_top("synthesized, scaled by -1", MADE, 4, -1, 0, -0.0f);
     try_top("synthesized, scaled by what is infinite", MADE, 4, INFINITY, 0, NAN);
     try_top("vertical case 3", 3, 4, 2, 3, 0);
     try_top("vertical case 255", 255, 4, 2, 3, 0);
 
-    check(suolluvik_tsb(half.at, half.len, VORG, 4, 0, &coord, 1, -30, 1, &value) == 0 && value == 20, "tsb", "at 8192");
-
     /* with glyf the bearing is scaled twice, as in swash */
-    try_origin("glyf, yMax 0", 1000, GLYF, 0, 800, true, 0, 0, 4);
-    try_origin("glyf, yMax 10, by VVAR", 1000, GLYF, 4, 800, true, 10, 0, 72);
-    try_origin("glyf, no yMax", 40000, GLYF, 4, 800, false, 10, 0, 80000);
-    try_origin("VORG, 880", 1000, VORG, 4, 800, true, 880, 0, 1760);
-    try_origin("VORG, none: signed", 40000, VORG, 4, 800, false, 880, 0, -51072);
-    try_origin("synthesized", 1000, MADE, 4, 800, true, 7, 0, 1600);
+    try_origin("glyf, yMax 0", 1000, GLYF, 0, 800, true, 0, 0, 6.25f);
+    try_origin("glyf, yMax 10, by VVAR", 1000, GLYF, 4, 800, true, 10, 0, 56.25f);
+    try_origin("glyf, no yMax", 40000, GLYF, 4, 800, false, 10, 0, -100000);
+    try_origin("VORG, 880", 1000, VORG, 4, 800, true, 880, 0, -2200);
+    try_origin("VORG, none: signed", 40000, VORG, 4, 800, false, 880, 0, 63840);
+    try_origin("synthesized", 1000, MADE, 4, -800.5f, true, 7, 0, 2001.25f);
     try_origin("vertical case 3", 1000, 3, 4, 800, true, 10, 3, 0);
     try_origin("vertical case 255", 1000, 255, 4, 800, false, 10, 3, 0);
 
-    check(suolluvik_vertical_origin(half.at, half.len, 1000, GLYF, 4, 0, 0, &coord, 1, -30, true, 10, 1, &value) == 0 &&
-              value == 30,
-          "vertical_origin", "at 8192");
-
     try_made("hasc 50 and hdsc -30", MEASURES, MADE, 4, 1, 1000, 800, 0, 1020, 850);
+    try_made("two axes, hasc 50.5 and hdsc -29.25", MEASURES, MADE, 4, 2, -1000.5f, -800.25f, 0, -979.25f, -749.75f);
     try_made("the deltas are added first", ALWAYS("000b"), MADE, 4, 1, 33554436, 0, 0, 33554440, 2);
     try_made("no coordinates", ALWAYS("000b"), MADE, 4, 0, 1000, 800, 0, 1000, 800);
     try_made("no MVAR", ALWAYS("000b"), MADE, 0, 1, 1000, 800, 0, 1000, 800);
@@ -574,8 +619,13 @@ static void try_vertical(void)
     try_made("vertical case 3", MEASURES, 3, 4, 1, 1000, 800, 3, 0, 0);
     try_made("vertical case 255", MEASURES, 255, 4, 1, 1000, 800, 3, 0, 0);
 
+    try_glyph("glyph 0, two axes", 0, -32794.5f, 16382.5f, -20016.5f, 144.5f, -69.75f);
+    try_glyph("glyph 256, two axes", 256, -32778.5f, 16385.25f, -20008.5f, 148.25f, -71.625f);
+
     suolluvik_synthesize(800, 200, &advance, &origin);
     check(advance == 1000 && origin == 800, "synthesize", "800 and 200");
+    suolluvik_synthesize(-800.5f, -200.25f, &advance, &origin);
+    check(advance == -1000.75f && origin == -800.5f, "synthesize", "-800.5 and -200.25");
 }
 
 /* NULL with length 0 is an empty list, in the place of each list of each function. */

@@ -57,12 +57,23 @@ const S5: &str = "00000000 00010000 00000010 00000000 00000000 0001 0000000c 000
     0001 0000 0001 0000 0000";
 const H1: &str = "00000000 00010000 00000018 00000010 00000010 0007 0003 000102 00 \
     0001 0000000c 0001 00000010 0000 0001 0003 0000 0001 0000 0a0b0c";
-// An MVAR at 4 with the eleven measures, sorted; inner comes before outer. Its rows are words; S1's triple.
+// An HVAR at 4 and a VVAR at 90, each with two advances and two bearings. A row has a byte for the first axis, up to 1, and one for
+// the second, down to -1. At PLACE, in this order, HVAR's rows are 55, 23, 3 and -2.5, VVAR's 32, 16, 11 and 3.5. A glyph past
+// the first has the second entry of a map: 256, which is 0 in eight bits, has it too.
+const BOTH: &str = "00000000 00010000 00000010 0000004a 00000050 0001 0000000c 0001 00000028 \
+    0002 0002 000040004000 000000000000 000000000000 c000c0000000 0004 0000 0002 0000 0001 \
+    6414 280c 0af8 e232 0007 0002 0001 0007 0002 0203 \
+    00010000 00000010 0000004a 00000050 0001 0000000c 0001 00000028 \
+    0002 0002 000040004000 000000000000 000000000000 c000c0000000 0004 0000 0002 0000 0001 \
+    3c08 1810 1404 0602 0007 0002 0001 0007 0002 0203";
+const PLACE: &[i16] = &[8192, -4096];
+// An MVAR at 4 with the eleven measures, sorted; inner comes before outer. Its rows have a word for the first axis, and a byte
+// for the second, where a missing coordinate is 0.
 const MVAR: &str = "00000000 0001 0000 0000 0008 000b 0064 \
     63706874 0000 0000 68617363 0001 0000 68647363 0002 0000 686c6770 0003 0000 7374726f 0004 0000 756e646f 0005 0000 \
     756e6473 0006 0000 76617363 0007 0000 76647363 0008 0000 766c6770 0009 0000 78686774 000a 0000 \
-    0001 0000000c 0001 00000016 0001 0001 0000 4000 4000 000b 0001 0001 0000 \
-    0028 0064 ffc4 000a 000c fff8 0006 00c8 ff9c 000e 001e";
+    0001 0000000c 0001 00000028 0002 0002 000040004000 000000000000 000000000000 c000c0000000 \
+    000b 0001 0002 0000 0001 002801 006402 ffc403 000a05 000c06 fff807 000609 00c80a ff9c0b 000e0d 001e0e";
 
 /// Both forms of a delta of a glyph's advance.
 fn advance(
@@ -221,6 +232,16 @@ fn deltas(t: &mut Test) {
         advance(t, "H1", h1, 4, glyph, &[], Ok(delta));
         bearing(t, "H1", h1, 4, glyph, &[], Ok(delta));
     }
+    let both = &bytes(BOTH)[..];
+    for (name, xvar, glyph, wide, side) in [
+        ("HVAR, two axes", 4, 0, 3604480, 196608),
+        ("HVAR, glyph 256", 4, 256, 1507328, -163840),
+        ("VVAR, two axes", 90, 0, 2097152, 720896),
+        ("VVAR, glyph 256", 90, 256, 1048576, 229376),
+    ] {
+        advance(t, name, both, xvar, glyph, PLACE, Ok(wide));
+        bearing(t, name, both, xvar, glyph, PLACE, Ok(side));
+    }
     bearing(t, "no HVAR", h1, 0, 0, &[], Err(Absent));
     bearing(t, "no map", s1, 4, 0, &[], Err(Absent));
     bearing(
@@ -252,6 +273,9 @@ fn deltas(t: &mut Test) {
     );
     let hasc = tag(b"hasc");
     of_measure(t, "hasc halfway", mvar, 4, hasc, &[8192], Ok(3276800));
+    of_measure(t, "hasc, two axes", mvar, 4, hasc, PLACE, Ok(3309568));
+    let hdsc = tag(b"hdsc");
+    of_measure(t, "hdsc, two axes", mvar, 4, hdsc, PLACE, Ok(-1916928));
     of_measure(t, "xhgt", mvar, 4, tag(b"xhgt"), &[16384], Ok(1966080));
     of_measure(t, "an MVAR at 0", &mvar[4..], 0, hasc, &[8192], Ok(3276800));
     of_measure(
@@ -294,7 +318,7 @@ fn deltas(t: &mut Test) {
     of_measure(
         t,
         "more words than regions",
-        &changed(MVAR, 128, "0002"),
+        &changed(MVAR, 146, "0003"),
         4,
         hasc,
         &[],
@@ -302,12 +326,15 @@ fn deltas(t: &mut Test) {
     );
 }
 
-// Document 01's listing; two axes and an instance; instances with a PostScript name id; the axes of N2 and N3; A1's map at 4.
+// Document 01's listing; two axes and an instance; a third axis, all below 0; instances with a PostScript name id; the axes of N2 and N3; A1's map at 4.
 const LISTED: &str =
     "00010000 0010 0002 0001 0014 0000 0008 77676874 00640000 01900000 03840000 0000 0100";
 const TWO: &str =
     "00010000 0010 0002 0002 0014 0001 000c 77676874 00640000 01900000 03840000 0000 0100 \
-    736c6e74 fff60000 00000000 00000000 0001 0101 0102 0000 028a0000 fffb0000";
+    736c6e74 fff60000 00000000 00000000 0003 0101 0102 0000 028a0000 fffb0000";
+const THREE: &str =
+    "00010000 0010 0002 0003 0014 0000 0010 77676874 00640000 01900000 03840000 0000 0100 \
+    736c6e74 fff60000 00000000 00000000 0003 0101 62656c6f fff68000 fffcc000 ffff4000 8003 8102";
 const NAMED: &str =
     "00010000 0010 0002 0001 0014 0002 000a 77676874 00640000 01900000 03840000 0000 0100 \
     0101 0000 02bc0000 0111 0102 0000 028a0000 0112";
@@ -346,9 +373,25 @@ fn axes(t: &mut Test) {
         min: -655360,
         default: 0,
         max: 0,
-        flags: 1,
+        flags: 3,
         name_id: 257,
     };
+    let below = Axis {
+        index: 2,
+        tag: tag(b"belo"),
+        min: -622592,
+        default: -212992,
+        max: -49152,
+        flags: 0x8003,
+        name_id: 0x8102,
+    };
+    let three = &bytes(THREE)[..];
+    t.same("axis: the third one", suolluvik::axis(three, 2), Ok(below));
+    let found = suolluvik::axis_by_tag(three, below.tag);
+    t.same("axis_by_tag: the third one", found, Ok(below));
+    let many = &changed(LISTED, 8, "8000 0000")[..];
+    let found = suolluvik::axis(many, 32768);
+    t.same("axis: past a count of 32768", found, Err(Index));
     t.same(
         "axis: document 01's listing",
         suolluvik::axis(listed, 0),
@@ -381,11 +424,8 @@ fn axes(t: &mut Test) {
         suolluvik::axis_by_tag(&listed[..35], WGHT),
         Err(Tag),
     );
-    t.same(
-        "Axis: hidden",
-        [weight.is_hidden(), slant.is_hidden()],
-        [false, true],
-    );
+    let hidden = [0, 1, 2, 3].map(|flags| Axis { flags, ..weight }.is_hidden());
+    t.same("Axis: hidden", hidden, [false, true, false, true]);
     let values = [
         weight.min_value(),
         weight.default_value(),
@@ -395,27 +435,30 @@ fn axes(t: &mut Test) {
     let floats = [6553600, -1, i32::MAX].map(suolluvik::fixed_to_f32);
     t.same("fixed_to_f32", floats, [100., -1. / 65536., 32768.]);
 
-    // the id is read at 8 from the table's start, where the axis count stands
-    let first = Instance {
-        index: 0,
-        name_id: 0x101,
-        postscript_name_id: Some(1),
-    };
-    let second = Instance {
-        index: 0,
-        name_id: 0x102,
-        postscript_name_id: None,
-    };
-    t.same(
-        "instance: with a PostScript name",
-        suolluvik::instance(named, 0),
-        Ok(first),
-    );
-    t.same(
-        "instance: without one",
-        suolluvik::instance(two, 0),
-        Ok(second),
-    );
+    // the id is read at 8 from the table's start, where the axis count stands; without axes at 4, with two at 12
+    let no_axes = &bytes("00010000 0000 0002 0000 0014 0001 0006")[..];
+    let two_axes = &changed(LISTED, 8, "0002 0000 0201 000e")[..];
+    for (name, fvar, index, name_id, postscript_name_id) in [
+        ("with a PostScript name", named, 0, 0x101, Some(1)),
+        ("the second one", named, 1, 0x102, Some(1)),
+        ("with a PostScript name id of 0", no_axes, 0, 1, Some(0)),
+        (
+            "with a PostScript name id of 513",
+            two_axes,
+            0,
+            0x7767,
+            Some(513),
+        ),
+        ("without a PostScript name", two, 0, 0x102, None),
+    ] {
+        let expected = Instance {
+            index,
+            name_id,
+            postscript_name_id,
+        };
+        let found = suolluvik::instance(fvar, index);
+        t.same(&format!("instance: {name}"), found, Ok(expected));
+    }
     let cut = &named[..named.len() - 3];
     let unsized_one = &changed(NAMED, 14, "0001")[..];
     t.same("instance: cut", suolluvik::instance(cut, 1), Err(Short));
@@ -424,6 +467,9 @@ fn axes(t: &mut Test) {
         suolluvik::instance(named, 2),
         Err(Index),
     );
+    let many = &changed(NAMED, 12, "8000")[..];
+    let found = suolluvik::instance(many, 32768);
+    t.same("instance: past a count of 32768", found, Err(Index));
     t.same(
         "instance: of size 1",
         suolluvik::instance(unsized_one, 0),
@@ -444,6 +490,7 @@ fn axes(t: &mut Test) {
     floats("two axes", two, 0, 2, Ok(2), [650., -5., -77.]);
     floats("cut", cut, 1, 3, Err(Short), [-77.; 3]);
     floats("past the count", named, 2, 3, Err(Index), [-77.; 3]);
+    floats("past 32768", many, 32768, 3, Err(Index), [-77.; 3]);
     floats("of size 1", unsized_one, 0, 3, Err(Arithmetic), [-77.; 3]);
     floats("a list that is too short", two, 0, 1, Err(Room), [-77.; 3]);
 }
@@ -612,6 +659,8 @@ fn coords(t: &mut Test) {
         [-77; 3],
     );
     instance("past the count", named, 0, 2, 3, Err(Index), [-77; 3]);
+    let many = &changed(NAMED, 12, "8000")[..];
+    instance("past 32768", many, 0, 32768, 3, Err(Index), [-77; 3]);
     instance(
         "of size 1",
         &changed(NAMED, 14, "0001"),
@@ -633,13 +682,14 @@ fn coords(t: &mut Test) {
     );
 }
 
+// No two are the same, and none is 0.
 const UNVARIED: Metrics = Metrics {
     ascent: 800.,
     descent: 200.,
     leading: 90.,
-    vertical_ascent: 500.,
+    vertical_ascent: 520.,
     vertical_descent: 400.,
-    vertical_leading: 0.,
+    vertical_leading: 60.,
     cap_height: 700.,
     x_height: 500.,
     average_width: 550.,
@@ -655,9 +705,9 @@ fn scaled(factor: f32) -> Metrics {
         ascent: 800. * factor,
         descent: 200. * factor,
         leading: 90. * factor,
-        vertical_ascent: 500. * factor,
+        vertical_ascent: 520. * factor,
         vertical_descent: 400. * factor,
-        vertical_leading: 0. * factor,
+        vertical_leading: 60. * factor,
         cap_height: 700. * factor,
         x_height: 500. * factor,
         average_width: 550. * factor,
@@ -670,7 +720,7 @@ fn scaled(factor: f32) -> Metrics {
 
 fn measures(t: &mut Test) {
     let font = &bytes(MVAR)[..];
-    // the rows at 8192, each a half of its entry
+    // the rows at 8192, each a half of its word
     let varied = Metrics {
         ascent: 800. + 50.,
         descent: 200. - 30.,
@@ -683,10 +733,25 @@ fn measures(t: &mut Test) {
         ..UNVARIED
     };
     let vertical = Metrics {
-        vertical_ascent: 500. + 100.,
+        vertical_ascent: 520. + 100.,
         vertical_descent: 400. - 50.,
-        vertical_leading: 0. + 7.,
+        vertical_leading: 60. + 7.,
         ..varied
+    };
+    // and at -4096 on the second axis a quarter of its byte more
+    let twice = Metrics {
+        ascent: 850. + 0.5,
+        descent: 170. + 0.75,
+        leading: 95. + 1.25,
+        vertical_ascent: 620. + 2.5,
+        vertical_descent: 350. + 2.75,
+        vertical_leading: 67. + 3.25,
+        cap_height: 720. + 0.25,
+        x_height: 515. + 3.5,
+        underline_offset: -104. + 1.75,
+        strikeout_offset: 306. + 1.5,
+        stroke_size: 53. + 2.25,
+        ..vertical
     };
 
     let mut materialize = |name: &str, mvar, coords: &[i16], vertical, expected: Metrics| {
@@ -700,6 +765,7 @@ fn measures(t: &mut Test) {
     };
     materialize("not vertical", 4, &[8192], false, varied);
     materialize("vertical", 4, &[8192], true, vertical);
+    materialize("two axes", 4, PLACE, true, twice);
     materialize("no coordinates", 4, &[], true, UNVARIED);
     materialize("no MVAR", 0, &[8192], true, UNVARIED);
     materialize("none that opens", 255, &[8192], true, UNVARIED);
@@ -707,13 +773,14 @@ fn measures(t: &mut Test) {
     for (units_per_em, ppem, factor) in [
         (2048, 16., 0.0078125),
         (2000, 16., 16. / 2000.),
+        (40000, -12.5, -12.5 / 40000.),
         (0, 16., 1.),
     ] {
         let mut measures = UNVARIED;
         let found = suolluvik::scale_metrics(units_per_em, ppem, &mut measures);
         t.same("scale_metrics", (found, measures), (Ok(()), scaled(factor)));
     }
-    for factor in [-3., 0.1] {
+    for factor in [-3., 0.123] {
         let mut measures = UNVARIED;
         let found = suolluvik::linear_scale_metrics(factor, &mut measures);
         t.same(
@@ -728,11 +795,10 @@ fn measures(t: &mut Test) {
 // bearing by 12.
 const GLYPHS: &str = "00000000 00010000 00000018 00000010 00000033 0007 0003 000102 00 \
     0001 0000000c 0001 00000010 0000 0001 0003 0000 0001 0000 0a0b0c 0007 0001 02";
-// S1 with a map for bearings: at 8192 advance and bearing vary by 50.
-const HALFWAY: &str = "00000000 00010000 00000010 00000000 0000002f 0001 0000000c 0001 00000016 \
-    0001 0001 0000 4000 4000 0001 0000 0001 0000 64 0007 0001 00";
 const GLYF: Vertical = Vertical::VmtxGlyf { vvar: 4 };
 const VORG: Vertical = Vertical::VmtxVorg { vvar: 4 };
+const BARE_GLYF: Vertical = Vertical::VmtxGlyf { vvar: 0 };
+const BARE_VORG: Vertical = Vertical::VmtxVorg { vvar: 0 };
 
 fn at(units_per_em: u16, vertical: Vertical, scale: f32) -> GlyphMetrics {
     GlyphMetrics {
@@ -752,6 +818,13 @@ fn glyphs(t: &mut Test) {
         origin: 800.,
     };
     t.same("Vertical::synthesize", made, expected);
+    let expected = Vertical::Synthesized {
+        mvar: 90,
+        advance: -1000.75,
+        origin: -800.5,
+    };
+    let found = Vertical::synthesize(90, -800.5, -200.25);
+    t.same("Vertical::synthesize: below 0", found, expected);
 
     let plain = at(1000, made, 2.);
     let found = plain.advance_width(font, 0, &[], 500);
@@ -763,54 +836,84 @@ fn glyphs(t: &mut Test) {
         none.advance_width(font, 0, &[], 500),
         1000.,
     );
+    t.same("lsb: no HVAR", none.lsb(font, 0, &[], -20), -40.);
     t.same(
         "advance_width: no font",
         plain.advance_width(&[], 0, &[], 500),
         1000.,
     );
+}
 
-    let (half, m, at_half) = (&bytes(HALFWAY)[..], at(1000, GLYF, 1.), &[8192]);
-    let found = [
-        m.advance_width(half, 0, at_half, 500),
-        m.lsb(half, 0, at_half, -20),
-        m.advance_height(half, 0, at_half, 600),
-        m.tsb(half, 0, at_half, -30),
-        m.vertical_origin(half, 0, at_half, -30, Some(10)),
-    ];
-    t.same("at 8192", found, [550., 30., 650., 20., 10. + 20.]);
-
-    let no_vvar = Vertical::VmtxVorg { vvar: 0 };
-    for (vertical, height, top) in [
-        (GLYF, (500. + 11.) * 2., (-20. + 12.) * 2.),
-        (VORG, (500. + 11.) * 2., (-20. + 12.) * 2.),
-        (no_vvar, 500. * 2., -20. * 2.),
-        (made, 1000. * 2., 0.),
+/// A glyph's metrics by HVAR and VVAR, at PLACE.
+fn by_both(t: &mut Test) {
+    let font = &bytes(BOTH)[..];
+    for (glyph, level, height, top, origin) in [
+        (0, [-32794.5, 16382.5], -20016.5, 144.5, -69.75),
+        (256, [-32778.5, 16385.25], -20008.5, 148.25, -71.625),
     ] {
-        let m = at(1000, vertical, 2.);
+        for (vertical, origin) in [
+            (Vertical::VmtxGlyf { vvar: 90 }, origin),
+            (Vertical::VmtxVorg { vvar: 90 }, -5. * -0.5),
+        ] {
+            let m = at(1000, vertical, -0.5);
+            let name = format!("glyph {glyph}, {vertical:?}");
+            let found = [
+                m.advance_width(font, glyph, PLACE, 65534),
+                m.lsb(font, glyph, PLACE, -32768),
+            ];
+            t.same(&name, found, level);
+            let found = [
+                m.advance_height(font, glyph, PLACE, 40001),
+                m.tsb(font, glyph, PLACE, -300),
+                m.vertical_origin(font, glyph, PLACE, -300, Some(-5)),
+            ];
+            t.same(&name, found, [height, top, origin].map(Ok));
+        }
+    }
+}
+
+/// The vertical cases at a scale of -2.5.
+fn upright(t: &mut Test) {
+    let font = &bytes(GLYPHS)[..];
+    let made = Vertical::synthesize(4, -800.5, -200.25);
+    for (vertical, height, top) in [
+        (GLYF, (500. + 11.) * -2.5, (20. + 12.) * -2.5),
+        (VORG, (500. + 11.) * -2.5, (20. + 12.) * -2.5),
+        (BARE_GLYF, 500. * -2.5, 20. * -2.5),
+        (BARE_VORG, 500. * -2.5, 20. * -2.5),
+        (made, -1000.75 * -2.5, 0.),
+    ] {
+        let m = at(1000, vertical, -2.5);
+        let found = [m.advance_height(font, 1, &[], 500), m.tsb(font, 1, &[], 20)];
         t.same(
-            "advance_height",
-            m.advance_height(font, 1, &[], 500),
-            height,
+            &format!("upright, {vertical:?}"),
+            found,
+            [Ok(height), Ok(top)],
         );
-        t.same("tsb", m.tsb(font, 1, &[], -20), top);
     }
 
     // with glyf the bearing is scaled twice; a missing origin of VORG is signed
     for (name, units_per_em, vertical, y, expected) in [
-        ("glyf", 1000, GLYF, Some(10), (10. + (1. + 12.) * 2.) * 2.),
-        ("glyf, no yMax", 40000, GLYF, None, 40000. * 2.),
-        ("VORG", 1000, VORG, Some(880), 880. * 2.),
-        ("VORG, none", 40000, VORG, None, (40000. - 65536.) * 2.),
-        ("synthesized", 1000, made, Some(7), 800. * 2.),
+        ("glyf", 1000, GLYF, Some(10), 10. + (1. + 12.) * -2.5),
+        ("glyf, no VVAR", 1000, BARE_GLYF, Some(10), 10. + 1. * -2.5),
+        ("glyf, no yMax", 40000, GLYF, None, 40000.),
+        ("VORG", 1000, VORG, Some(880), 880.),
+        ("VORG, no VVAR", 1000, BARE_VORG, Some(880), 880.),
+        ("VORG, none", 40000, VORG, None, 40000. - 65536.),
+        ("synthesized", 1000, made, Some(7), -800.5),
     ] {
-        let found = at(units_per_em, vertical, 2.).vertical_origin(font, 0, &[], 1, y);
-        t.same(&format!("vertical_origin: {name}"), found, expected);
+        let found = at(units_per_em, vertical, -2.5).vertical_origin(font, 0, &[], 1, y);
+        let name = format!("vertical_origin: {name}");
+        t.same(&name, found, Ok(expected * -2.5));
     }
+}
 
+fn scales(t: &mut Test) {
+    let made = Vertical::synthesize(4, 800., 200.);
     t.same(
         "GlyphMetrics: scale",
-        at(1000, made, -1.).scale(2000.),
-        plain,
+        at(40000, made, -1.).scale(-12.5),
+        at(40000, made, -12.5 / 40000.),
     );
     t.same(
         "GlyphMetrics: no units per em",
@@ -819,29 +922,33 @@ fn glyphs(t: &mut Test) {
     );
     t.same(
         "GlyphMetrics: linear_scale",
-        at(1000, made, -1.).linear_scale(2.),
-        plain,
+        at(1000, made, -1.).linear_scale(-0.5),
+        at(1000, made, -0.5),
     );
+}
 
+fn materialized(t: &mut Test) {
     let mvar = &bytes(MVAR)[..];
-    let shifted = Vertical::Synthesized {
-        mvar: 4,
-        advance: 1000. + (50. - 30.),
-        origin: 800. + 50.,
-    };
-    t.same(
-        "materialize: synthesized",
-        plain.materialize(mvar, &[8192]),
-        at(1000, shifted, 2.),
-    );
-    t.same(
-        "materialize: no coordinates",
-        plain.materialize(mvar, &[]),
-        plain,
-    );
+    for (mvar_offset, coords, hasc, hdsc) in [
+        (4, &[8192][..], 50., -30.),
+        (4, PLACE, 50.5, -29.25),
+        (4, &[], 0., 0.),
+        (0, PLACE, 0., 0.),
+    ] {
+        let shifted = |by_advance: f32, by_origin: f32| Vertical::Synthesized {
+            mvar: mvar_offset,
+            advance: -1000.5 + by_advance,
+            origin: -800.25 + by_origin,
+        };
+        t.same(
+            &format!("materialize: by {mvar_offset}, at {coords:?}"),
+            at(1000, shifted(0., 0.), 2.).materialize(mvar, coords),
+            Ok(at(1000, shifted(hasc + hdsc, hasc), 2.)),
+        );
+    }
     for vertical in [GLYF, VORG] {
         let m = at(1000, vertical, 2.);
-        t.same("materialize: by vmtx", m.materialize(mvar, &[8192]), m);
+        t.same("materialize: by vmtx", m.materialize(mvar, PLACE), Ok(m));
     }
 }
 
@@ -871,6 +978,10 @@ fn main() -> ExitCode {
     coords(&mut t);
     measures(&mut t);
     glyphs(&mut t);
+    by_both(&mut t);
+    upright(&mut t);
+    scales(&mut t);
+    materialized(&mut t);
     println!("{} passed, {} failed", t.passed, t.failed);
     ExitCode::from((t.failed != 0) as u8)
 }

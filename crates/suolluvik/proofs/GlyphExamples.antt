@@ -2,7 +2,8 @@
 use Prim.Native.Nat.{ℕ}
 use mathlib.Core.Path.{_≡_, refl}
 use mathlib.Core.Bool.{Bool, true, false}
-use mathlib.Core.List.{List, []}
+use mathlib.Core.List.{List, [], _∷_}
+use mathlib.Core.Option.{some}
 use lib.IntN.{ℤ, pos, negsuc}
 use lib.Ieee.{Float}
 use Rattle.readers.specs.Outcome.{Outcome}
@@ -21,6 +22,31 @@ two = float (pos 2)
 pub level-ones : (advanceWidthIn font 4 0 [] 500 two ≡ float (pos 1020)) × (leftBearingIn font 4 0 [] (negsuc 19) two ≡ float (negsuc 15))
 unfolding computing-measures
 level-ones = (refl, refl)
+
+-- All five hang on the glyph and on the coordinates that are handed in. At 8192 the advance of glyph 0 varies by 50 and that of glyph 1 by 10, each by a row of its own; of bearings it is the other way round, by a map.
+abbrev halfway : List ℕ
+halfway =
+    0 ∷ 0 ∷ 0 ∷ 0
+    ∷ 0 ∷ 1 ∷ 0 ∷ 0 ∷ 0 ∷ 0 ∷ 0 ∷ 0x10 ∷ 0 ∷ 0 ∷ 0 ∷ 0 ∷ 0 ∷ 0 ∷ 0 ∷ 0x30
+    ∷ 0 ∷ 1 ∷ 0 ∷ 0 ∷ 0 ∷ 0x0c ∷ 0 ∷ 1 ∷ 0 ∷ 0 ∷ 0 ∷ 0x16
+    ∷ 0 ∷ 1 ∷ 0 ∷ 1 ∷ 0 ∷ 0 ∷ 0x40 ∷ 0 ∷ 0x40 ∷ 0
+    ∷ 0 ∷ 2 ∷ 0 ∷ 0 ∷ 0 ∷ 1 ∷ 0 ∷ 0 ∷ 100 ∷ 20
+    ∷ 0 ∷ 7 ∷ 0 ∷ 2 ∷ 1 ∷ 0 ∷ []
+
+abbrev five : ℕ → Float × Float × (ℕ × Float) × (ℕ × Float) × (ℕ × Float)
+five glyph = (
+  advanceWidthIn halfway 4 glyph (pos 8192 ∷ []) 500 two,
+  leftBearingIn halfway 4 glyph (pos 8192 ∷ []) (negsuc 19) two,
+  numbered zero (advanceHeightIn halfway 0 4 zero glyph (pos 8192 ∷ []) 600 two),
+  numbered zero (topBearingIn halfway 1 4 glyph (pos 8192 ∷ []) (negsuc 29) two),
+  numbered zero (verticalOriginIn halfway 1000 0 4 zero glyph (pos 8192 ∷ []) (pos 1) (some (pos 10)) two),
+)
+
+pub by-glyph-and-coordinate :
+    (five 0 ≡ (float (pos 1100), float (negsuc 19), (0, float (pos 1300)), (0, float (negsuc 39)), (0, float (pos 64))))
+    × (five 1 ≡ (float (pos 1020), float (pos 60), (0, float (pos 1220)), (0, float (pos 40)), (0, float (pos 224))))
+unfolding computing-measures verticalCase
+by-glyph-and-coordinate = (refl, refl)
 
 -- Each number has its case; 3 has none, and is refused. An offset of 0 is no VVAR.
 abbrev height : ℕ → ℕ → ℕ × Float
@@ -57,11 +83,14 @@ shifted part which = numbered zero (part (mvarFont 11) which 2 default (float (p
 pub materialized-by-case :
     (shifted advanceAt 2 ≡ (0, float (pos 1005)))
     × (shifted originAt 2 ≡ (0, float (pos 802)))
-    × (shifted advanceAt 1 ≡ (0, float (pos 1000)))
+    × (shifted advanceAt 0 ≡ (0, float (pos 1000)))
     × (shifted originAt 0 ≡ (0, float (pos 800)))
+    × (shifted advanceAt 1 ≡ (0, float (pos 1000)))
+    × (shifted originAt 1 ≡ (0, float (pos 800)))
     × (shifted advanceAt 3 ≡ (3, zero))
+    × (shifted originAt 3 ≡ (3, zero))
 unfolding computing-measures verticalCase
-materialized-by-case = (refl, refl, refl, refl, refl)
+materialized-by-case = (refl, refl, refl, refl, refl, refl, refl, refl)
 
 -- An ascent of 800 and a descent of 200 make an advance of 1000; the origin lies 800 above the baseline.
 pub from-ascent-and-descent : (advanceOr zero (synthesizedFrom 0 (float (pos 800)) (float (pos 200))) ≡ float (pos 1000)) × (originOr zero (synthesizedFrom 0 (float (pos 800)) (float (pos 200))) ≡ float (pos 800))

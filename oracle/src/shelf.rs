@@ -188,6 +188,9 @@ impl Shelf {
         let (row, file) = names(folder, path);
         let faces = font::faces(&data);
         let single = faces.len() == 1;
+        if faces.is_empty() {
+            println!("left out, no face of it can be opened: {file}");
+        }
         for (face, directory) in faces {
             let title = if single {
                 file.clone()
@@ -293,8 +296,9 @@ fn compare(folder: &Path, damage: Option<(u64, u64)>) -> io::Result<bool> {
     for title in &shelf.without_fvar {
         println!("without fvar: {title}");
     }
-    if count == 0 {
-        return Err(io::Error::new(io::ErrorKind::Other, "no font below it"));
+    if shelf.functions.iter().all(|tally| tally.cases == 0) {
+        let why = "nothing below it can be compared";
+        return Err(io::Error::new(io::ErrorKind::Other, why));
     }
     Ok(shelf.table())
 }

@@ -98,8 +98,8 @@ impl Reader {
                 self.tables.next_face();
             }
             ("avar", [bytes]) => self.begin(|font| font.put_avar(bytes))?,
-            ("filled", [vvar, behind, changes @ ..]) => {
-                self.begin(|font| font.fill(vvar, behind, changes))?
+            ("filled", [vvar, mvar, behind, changes @ ..]) => {
+                self.begin(|font| font.fill(vvar, mvar, behind, changes))?
             }
             ("end", []) => {
                 self.settle();
@@ -138,6 +138,9 @@ fn read(made: bool) -> Wrong<bool> {
     }
     if !reader.ended {
         return Err("swash's side ended before its last line".to_string());
+    }
+    if reader.tables.is_empty() {
+        return Err("nothing was compared".to_string());
     }
     if !made {
         reader.tables.print();

@@ -255,7 +255,7 @@ impl Case {
         }
     }
 
-    /// What swash answers. It may panic. Where there is an avar, it hands it to skrifa, which is not built here.
+    /// What swash answers. It may panic. Where there is an avar, it hands it to skrifa, for which a shim stands here.
     fn rust(&self) -> Option<Rust> {
         if self.avar != 0 {
             return Some(Rust::Silent);

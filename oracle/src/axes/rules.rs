@@ -151,15 +151,24 @@ pub const NO_AVAR: Avar = Avar {
     offset: 0,
 };
 
-/// Axis count at 6; from 8 on, per axis a count and pairs from, to in 2.14: an axis' pairs, in 16.16.
-/// None with an offset of 0, for an axis at or past the count, or by a read past the end before its
-/// map's end.
-pub fn pairs(avar: Avar, axis: usize) -> Option<Vec<(i128, i128)>> {
-    // everything is 16 bits wide: number k stands at 2·k
-    let number = |k: usize| unsigned(avar.font, avar.offset + 2 * k, 2).ok();
-    if avar.offset == 0 || axis as i128 >= number(3)? {
+/// A pair's from and to, in 16.16.
+pub type Pair = (i128, i128);
+
+/// Axis count at 6. None with an offset of 0, for an axis at or past the count, or by a read past the end
+/// before its map's end.
+pub fn pairs(avar: Avar, axis: usize) -> Option<Vec<Pair>> {
+    let count = unsigned(avar.font, avar.offset + 6, 2).ok()?;
+    if avar.offset == 0 || axis as i128 >= count {
         return None;
     }
+    pairs_at(avar, axis)
+}
+
+/// From 8 on, per axis a count and pairs from, to in 2.14: those in the place of an axis, whatever the count
+/// of axes.
+pub fn pairs_at(avar: Avar, axis: usize) -> Option<Vec<Pair>> {
+    // everything is 16 bits wide: number k stands at 2·k
+    let number = |k: usize| unsigned(avar.font, avar.offset + 2 * k, 2).ok();
     let mut numbers = (4..).map(number);
     let mut next = || numbers.next().flatten();
     for _ in 0..axis {
@@ -178,7 +187,7 @@ pub fn pairs(avar: Avar, axis: usize) -> Option<Vec<(i128, i128)>> {
 /// Take the first pair whose from is not below the value: equal gives its to; if it is the first pair,
 /// or none exists, the value stays; otherwise, with the pair before it, to0 plus (to1 - to0)·(v - from0)
 /// over (from1 - from0), rounded as muldiv.
-fn mapped(pairs: &[(i128, i128)], value: i128) -> i128 {
+fn mapped(pairs: &[Pair], value: i128) -> i128 {
     let k = match pairs.iter().position(|(from, _)| *from >= value) {
         Some(k) => k,
         None => return value,

@@ -1,7 +1,7 @@
 //! Axes, instances and coordinates.
 
 use crate::axes::rules::{self, Answer, Axis};
-use crate::deciding::{why, Why};
+use crate::deciding::{decided, Decided};
 use crate::font::Font;
 use crate::judge::{Function, Judge, Rust, CHANGED};
 use crate::numbers::rules::{from_f32, to_f32};
@@ -140,15 +140,17 @@ fn axis_by_tag(judge: &mut Judge, font: &Font, tag: u32, answer: &str) {
     );
 }
 
-/// Both name ids, then the values as the bits of floats.
+/// Index, both name ids, then the values as the bits of floats.
 fn instance_text(
+    index: usize,
     name_id: u16,
     postscript: Option<u16>,
     values: impl Iterator<Item = u32>,
 ) -> String {
     let postscript = postscript.map_or(EMPTY.to_string(), |id| id.to_string());
     format!(
-        "{};{};{}",
+        "{};{};{};{}",
+        index,
         name_id,
         postscript,
         list_text(values.map(|bits| format!("{:08x}", bits)))
@@ -161,6 +163,7 @@ fn our_instance(table: &[u8], index: u16) -> Result<String, Refusal> {
     suolluvik::instance_floats(table, index, &mut values)?;
     let values = values.into_iter().map(f32::to_bits);
     Ok(instance_text(
+        instance.index.into(),
         instance.name_id,
         instance.postscript_name_id,
         values,
@@ -172,6 +175,7 @@ fn rule_instance(table: &[u8], index: usize) -> Answer<String> {
     let values = rules::instance_values(table, index, usize::MAX)?;
     let postscript = instance.postscript_name_id.map(|id| id as u16);
     Ok(instance_text(
+        index,
         instance.name_id as u16,
         postscript,
         values.into_iter().map(to_f32),
@@ -194,34 +198,40 @@ fn instance(judge: &mut Judge, font: &Font, index: u16, answer: &str) {
     );
 }
 
-/// The list that was written; a refusal must leave it.
-fn written(answer: Result<u16, Refusal>, list: Vec<i16>) -> Answer<Vec<i16>> {
-    match answer {
-        Ok(count) => Ok(list[..count.into()].to_vec()),
-        Err(refusal) if list.iter().all(|coord| *coord == COORD_MARK) => Err(refusal.number()),
-        Err(_) => Err(CHANGED),
+/// A list with room for so many coordinates, and for two more.
+fn room(count: usize) -> Vec<i16> {
+    vec![COORD_MARK; count + 2]
+}
+
+/// The coordinates that were written; what is behind them must stay, and all of it on a refusal.
+fn written(answer: Result<u16, Refusal>, mut list: Vec<i16>) -> Answer<Vec<i16>> {
+    let count = answer.unwrap_or(0).into();
+    if list[count..].iter().any(|coord| *coord != COORD_MARK) {
+        return Err(CHANGED);
     }
+    list.truncate(count);
+    answer.map(|_| list).map_err(Refusal::number)
 }
 
 fn narrow(coords: Answer<Vec<i64>>) -> Answer<Vec<i16>> {
     coords.map(|coords| coords.into_iter().map(|coord| coord as i16).collect())
 }
 
-/// Why document 01's rule may decide of a value of an axis; not where that is refused.
-fn why_at(font: &Font, axis: &Axis, value: i128) -> Option<Why> {
-    why(font.rule_avar(), axis.index, rules::held(axis, value).ok()?)
+/// Where document 01 decides of a value of an axis; not where that is refused.
+fn decided_at(font: &Font, axis: &Axis, value: i128) -> Option<Decided> {
+    decided(font.rule_avar(), axis.index, rules::held(axis, value).ok()?)
 }
 
 fn instance_coords(judge: &mut Judge, font: &Font, index: u16, rust: Rust<Vec<i16>>) {
     let table = font.table();
-    let mut list = vec![COORD_MARK; suolluvik::axis_count(table).into()];
+    let mut list = room(suolluvik::axis_count(table).into());
     let ours = suolluvik::instance_coords(table, &font.data, font.avar, index, &mut list);
     let rule = rules::instance_coords(table, font.rule_avar(), index.into(), usize::MAX);
     let values = rules::instance_values(table, index.into(), usize::MAX).unwrap_or_default();
-    let why = |(i, value): (usize, &i128)| {
-        why_at(font, &rules::axis(table, i).unwrap_or_default(), *value)
+    let decided = |(i, value): (usize, &i128)| {
+        decided_at(font, &rules::axis(table, i).unwrap_or_default(), *value)
     };
-    let whys: Vec<Option<Why>> = values.iter().enumerate().map(why).collect();
+    let decided: Vec<Option<Decided>> = values.iter().enumerate().map(decided).collect();
     let arguments = || format!("index {}", index);
     judge.coords(
         Function::InstanceCoords,
@@ -229,19 +239,20 @@ fn instance_coords(judge: &mut Judge, font: &Font, index: u16, rust: Rust<Vec<i1
         rust,
         written(ours, list),
         narrow(rule),
-        &whys,
+        &decided,
         rules::few_left(table, index.into()),
     );
 }
 
 fn our_settings(font: &Font, tags: &[u32], values: &[f32]) -> Answer<Vec<i16>> {
     let table = font.table();
-    let mut list = vec![COORD_MARK; usize::from(suolluvik::axis_count(table)).min(MOST)];
+    let mut list = room(usize::from(suolluvik::axis_count(table)).min(MOST));
     let ours = suolluvik::normalized_coords(table, &font.data, font.avar, tags, values, &mut list);
     written(ours, list)
 }
 
-/// One value of one axis, against swash's `Variation::normalize`.
+/// One value of one axis, against swash's `Variation::normalize`. Ours is a setting, which every axis with the tag gets: where
+/// another one refuses it, there is nothing to compare.
 fn normalize(
     judge: &mut Judge,
     font: &Font,
@@ -254,15 +265,25 @@ fn normalize(
     let axis = rules::axis(font.table(), index).unwrap_or_default();
     let fixed = from_f32(value.to_bits()) as i128;
     let rule = rules::normalise(&axis, font.rule_avar(), fixed).map(|coord| vec![coord]);
+    let all = rules::settings(
+        font.table(),
+        font.rule_avar(),
+        &[tag],
+        &[value.to_bits()],
+        MOST,
+    );
+    if all.is_err() && rule.is_ok() {
+        return;
+    }
     let arguments = || format!("axis {}, value {:?}", index, value);
-    let why = why_at(font, &axis, fixed);
+    let decided = decided_at(font, &axis, fixed);
     judge.coords(
         Function::NormalizedCoord,
         arguments,
         rust,
         ours,
         narrow(rule),
-        &[why],
+        &[decided],
         false,
     );
 }
@@ -273,13 +294,13 @@ fn settings(judge: &mut Judge, font: &Font, tags: &[u32], values: &[f32], rust: 
     let bits: Vec<u32> = values.iter().map(|value| value.to_bits()).collect();
     let rule = rules::settings(table, font.rule_avar(), tags, &bits, MOST);
     // the last setting of a tag counts
-    let why = |i: usize| {
+    let decided = |i: usize| {
         let axis = rules::axis(table, i).ok()?;
         let set = tags.iter().rposition(|tag| *tag == axis.tag)?;
-        why_at(font, &axis, from_f32(bits[set]) as i128)
+        decided_at(font, &axis, from_f32(bits[set]) as i128)
     };
-    let whys: Vec<Option<Why>> = (0..rules::header(table).axis_count.min(MOST))
-        .map(why)
+    let decided: Vec<Option<Decided>> = (0..rules::header(table).axis_count.min(MOST))
+        .map(decided)
         .collect();
     let arguments = || format!("tags {:08x?}, values {:?}", tags, values);
     judge.coords(
@@ -288,7 +309,7 @@ fn settings(judge: &mut Judge, font: &Font, tags: &[u32], values: &[f32], rust: 
         rust,
         ours,
         narrow(rule),
-        &whys,
+        &decided,
         false,
     );
 }

@@ -125,8 +125,8 @@ impl Font {
         Ok(())
     }
 
-    /// Another VVAR, bytes behind the font's own, and changes of these, a place and its new bytes in turn.
-    pub fn fill(&mut self, vvar: &str, behind: &str, changes: &[&str]) -> Wrong<()> {
+    /// Another VVAR and MVAR, bytes behind the font's own, and changes of these, a place and its new bytes in turn.
+    pub fn fill(&mut self, vvar: &str, mvar: &str, behind: &str, changes: &[&str]) -> Wrong<()> {
         self.undo();
         for change in changes.chunks(2) {
             let (p, new) = match change {
@@ -138,12 +138,14 @@ impl Font {
             old.copy_from_slice(&new);
         }
         self.vvar = number(vvar)? as u32;
+        self.mvar = number(mvar)? as u32;
         self.data.extend(hex(behind)?);
         self.phase = Phase::Filled;
         let more = self.data.len() - self.whole;
         self.done = format!(
-            ", filled: VVAR at {}, {} bytes more, set {}",
+            ", filled: VVAR at {}, MVAR at {}, {} bytes more, set {}",
             vvar,
+            mvar,
             more,
             changes.join(" ")
         );
@@ -176,7 +178,7 @@ impl Font {
         self.fvar.1 != 0
     }
 
-    pub fn rule_avar(&self) -> Avar {
+    pub fn rule_avar(&self) -> Avar<'_> {
         Avar {
             font: &self.data,
             offset: self.avar as usize,

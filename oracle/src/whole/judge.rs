@@ -1,7 +1,7 @@
 //! What is compared, and what counts as a difference. README.md has the rules.
 
 use crate::axes::rules::Answer;
-use crate::deciding::{Why, WHYS};
+use crate::deciding::{Decided, WHYS};
 use std::fmt::Debug;
 
 #[derive(Clone, Copy, PartialEq)]
@@ -16,6 +16,7 @@ pub enum Function {
     Measures,
     ScaleMeasures,
     LinearScaleMeasures,
+    Synthesize,
     AdvanceWidth,
     Lsb,
     AdvanceHeight,
@@ -23,7 +24,7 @@ pub enum Function {
     VerticalOrigin,
 }
 
-pub const FUNCTIONS: [&str; 15] = [
+pub const FUNCTIONS: [&str; 16] = [
     "axis_count, instance_count",
     "axis",
     "axis_by_tag",
@@ -34,6 +35,7 @@ pub const FUNCTIONS: [&str; 15] = [
     "materialize_metrics",
     "scale_metrics",
     "linear_scale_metrics",
+    "synthesize",
     "advance_width",
     "lsb",
     "advance_height",
@@ -52,11 +54,9 @@ pub enum Rust<T> {
 #[derive(Clone, Copy, Default)]
 pub struct Tally {
     pub cases: u64,
-    /// the Rust's answer, where document 01's avar rule has no say of its own
+    /// the Rust's answer
     pub equal: u64,
-    /// the same where it may have
-    pub kept: u64,
-    /// document 01's answer, which is not the Rust's
+    /// document 01's, where the Rust's is another, that of skrifa's avar rule
     pub decided: u64,
     /// the refusal of the rules where the Rust answers `None`
     pub none: u64,
@@ -69,42 +69,38 @@ impl Tally {
     pub fn add(&mut self, other: &Tally) {
         self.cases += other.cases;
         self.equal += other.equal;
-        self.kept += other.kept;
         self.decided += other.decided;
         self.none += other.none;
         self.stops += other.stops;
         self.differences += other.differences;
     }
 
-    pub fn columns(&self) -> [u64; 7] {
+    pub fn columns(&self) -> [u64; 6] {
         [
             self.cases,
             self.equal,
             self.none,
             self.stops,
-            self.kept,
             self.decided,
             self.differences,
         ]
     }
 }
 
-pub const COLUMNS: [&str; 7] = [
+pub const COLUMNS: [&str; 6] = [
     "cases",
     "equal",
     "None",
     "Rust stops",
-    "01, equal",
     "01 decides",
     "differences",
 ];
 
-/// All that is counted of one state of a font. Of coordinates where document 01 may decide: how many there
-/// are, and how many are the Rust's all the same.
+/// All that is counted of one state of a font, with the coordinates where document 01 decides, by the reason.
 #[derive(Clone, Copy, Default)]
 pub struct Counts {
     pub functions: [Tally; FUNCTIONS.len()],
-    pub whys: [[u64; 2]; WHYS.len()],
+    pub whys: [u64; WHYS.len()],
 }
 
 pub struct Judge {
@@ -197,8 +193,7 @@ impl Judge {
         }
     }
 
-    /// The same for coordinates, each with why document 01 may decide, if it may: there the Rust's may be
-    /// another one.
+    /// The same for coordinates, each with the Rust's own where document 01 decides.
     pub fn coords(
         &mut self,
         function: Function,
@@ -206,12 +201,12 @@ impl Judge {
         rust: Rust<Vec<i16>>,
         ours: Answer<Vec<i16>>,
         rule: Answer<Vec<i16>>,
-        whys: &[Option<Why>],
+        decided: &[Option<Decided>],
         few_left: bool,
     ) {
         if self.loud {
-            let why = whys[0].map_or(String::new(), |why| format!(" ({})", WHYS[why as usize]));
             let (theirs, ours) = (rust_text(&rust), answer_text(&ours));
+            let why = decided[0].map_or(String::new(), |d| format!(" ({})", WHYS[d.why as usize]));
             println!(
                 "{}, {}: swash {}, ours {}{}",
                 self.input,
@@ -221,40 +216,29 @@ impl Judge {
                 why
             );
         }
-        let (theirs, said) = match (&rust, &rule) {
-            (Rust::Answer(theirs), Ok(said))
-                if theirs.len() == said.len() && said.len() == whys.len() =>
-            {
-                (theirs, said)
-            }
+        let said = match &rule {
+            Ok(said) if decided.iter().any(Option::is_some) => said,
             _ => return self.judge(function, arguments, rust, ours, rule, few_left),
         };
-        let apart: Vec<bool> = theirs.iter().zip(said).map(|(a, b)| a != b).collect();
-        let free = apart
-            .iter()
-            .zip(whys)
-            .all(|(apart, why)| !apart || why.is_some());
-        if !free || ours != rule {
-            let tally = &mut self.counts.functions[function as usize];
-            tally.cases += 1;
-            let texts = [answer_text(&ours), rust_text(&rust), answer_text(&rule)];
-            return self.difference(function, arguments(), texts);
-        }
-        for (why, apart) in whys.iter().zip(&apart) {
-            if let Some(why) = why {
-                let counts = &mut self.counts.whys[*why as usize];
-                counts[0] += 1;
-                counts[1] += !apart as u64;
-            }
-        }
+        let theirs =
+            |(said, decided): (&i16, &Option<Decided>)| decided.map_or(*said, |d| d.theirs);
+        let expected: Vec<i16> = said.iter().zip(decided).map(theirs).collect();
         let tally = &mut self.counts.functions[function as usize];
         tally.cases += 1;
-        if apart.contains(&true) {
+        let expected = Rust::Answer(expected);
+        if rust == expected && ours == rule {
             tally.decided += 1;
-        } else if whys.iter().any(Option::is_some) {
-            tally.kept += 1;
+            for decided in decided.iter().flatten() {
+                self.counts.whys[decided.why as usize] += 1;
+            }
         } else {
-            tally.equal += 1;
+            let rust = format!(
+                "{}, by skrifa's rule {}",
+                rust_text(&rust),
+                rust_text(&expected)
+            );
+            let texts = [answer_text(&ours), rust, answer_text(&rule)];
+            self.difference(function, arguments(), texts);
         }
     }
 

@@ -102,14 +102,15 @@ impl Metrics {
                 self.measures_at(judge, font, &halves(coords)?, scale_of(kind, x)?, answer)?;
             }
             ("vertical", [case, no_mvar, advance, origin]) => {
-                let mvar = if *no_mvar == "1" { 0 } else { font.mvar };
-                self.vertical = Some(match *case {
-                    "0" => suolluvik::Vertical::VmtxGlyf { vvar: font.vvar },
-                    "1" => suolluvik::Vertical::VmtxVorg { vvar: font.vvar },
+                let made = [float(advance)?, float(origin)?];
+                self.vertical = Some(match (*case, *no_mvar) {
+                    ("0", _) => suolluvik::Vertical::VmtxGlyf { vvar: font.vvar },
+                    ("1", _) => suolluvik::Vertical::VmtxVorg { vvar: font.vvar },
+                    (_, "0") => self.synthesize(judge, font, made),
                     _ => suolluvik::Vertical::Synthesized {
-                        mvar,
-                        advance: float(advance)?,
-                        origin: float(origin)?,
+                        mvar: 0,
+                        advance: made[0],
+                        origin: made[1],
                     },
                 });
                 self.glyphs.clear();
@@ -171,6 +172,26 @@ impl Metrics {
         Some(())
     }
 
+    /// What swash makes of its own unvaried ascent and descent, where the font has no vmtx.
+    fn synthesize(&self, judge: &mut Judge, font: &Font, rust: [f32; 2]) -> suolluvik::Vertical {
+        let [ascent, descent, ..] = self.measures;
+        let made = suolluvik::Vertical::synthesize(font.mvar, ascent, descent);
+        let ours = match made {
+            suolluvik::Vertical::Synthesized {
+                advance, origin, ..
+            } => vec![advance, origin],
+            _ => vec![],
+        };
+        judge.floats(
+            Function::Synthesize,
+            || format!("ascent {:?}, descent {:?}", ascent, descent),
+            Some(&rust),
+            &ours,
+            || (vec![ascent + descent, ascent], false),
+        );
+        made
+    }
+
     fn at(&self, font: &Font, coords: Vec<i16>, scale: Scale) -> Option<At> {
         let unscaled = GlyphMetrics {
             units_per_em: self.units_per_em,
@@ -178,11 +199,14 @@ impl Metrics {
             vertical: self.vertical?,
             scale: 1.,
         };
-        let ours = unscaled.materialize(&font.data, &coords);
+        // nothing here is refused
+        let ours = unscaled.materialize(&font.data, &coords).ok()?;
+        // a scale replaces the one before
+        let before = ours.linear_scale(-7.);
         let (ours, rule_scale) = match scale {
             Scale::Plain => (ours, 1.),
-            Scale::Ppem(ppem) => (ours.scale(ppem), scale_for(ppem, self.units_per_em)),
-            Scale::Linear(factor) => (ours.linear_scale(factor), factor),
+            Scale::Ppem(ppem) => (before.scale(ppem), scale_for(ppem, self.units_per_em)),
+            Scale::Linear(factor) => (before.linear_scale(factor), factor),
         };
         let mut place = Place {
             font: &font.data,
@@ -208,10 +232,13 @@ impl Metrics {
         let ours = [
             at.ours.advance_width(data, glyph, coords, unvaried.width),
             at.ours.lsb(data, glyph, coords, unvaried.lsb),
-            at.ours.advance_height(data, glyph, coords, unvaried.height),
-            at.ours.tsb(data, glyph, coords, unvaried.tsb),
             at.ours
-                .vertical_origin(data, glyph, coords, unvaried.tsb, unvaried.y),
+                .advance_height(data, glyph, coords, unvaried.height)
+                .ok()?,
+            at.ours.tsb(data, glyph, coords, unvaried.tsb).ok()?,
+            at.ours
+                .vertical_origin(data, glyph, coords, unvaried.tsb, unvaried.y)
+                .ok()?,
         ];
         let mut words = answer.split(',');
         for (k, ours) in ours.iter().enumerate() {

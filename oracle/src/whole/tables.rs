@@ -12,7 +12,7 @@ const PHASES: [(Phase, &str); 3] = [
     (Phase::AsItIs, "The fonts as they are"),
     (
         Phase::Filled,
-        "The fonts filled: maps of bearings, MVAR's indices as swash takes them, vertical metrics",
+        "The fonts filled: maps of bearings, every tag in MVAR, vertical metrics",
     ),
     (Phase::Damaged, "With avar damaged"),
 ];
@@ -46,8 +46,7 @@ impl Row {
             tally.add(more);
         }
         for (why, more) in self.counts.whys.iter_mut().zip(&other.whys) {
-            why[0] += more[0];
-            why[1] += more[1];
+            *why += more;
         }
     }
 
@@ -87,6 +86,10 @@ impl Tables {
             row.variable += font.is_variable() as u64;
             row.with_avar += font.has_avar() as u64;
         }
+    }
+
+    pub fn is_empty(&self) -> bool {
+        self.rows.is_empty()
     }
 
     pub fn differences(&self) -> u64 {
@@ -138,15 +141,11 @@ fn print_phase(longest: usize, rows: &[(&(Phase, String), &Row)]) {
     }
     print_row(longest, "all", &total.tally().columns());
 
-    if total.counts.whys.iter().any(|why| why[0] > 0) {
+    if total.counts.whys.iter().any(|count| *count > 0) {
         println!();
-        print_row(
-            longest,
-            "coordinates where 01 may decide",
-            &["coordinates", "equal", "01 decides"],
-        );
-        for (name, [all, equal]) in WHYS.iter().zip(&total.counts.whys) {
-            print_row(longest, name, &[*all, *equal, all - equal]);
+        print_row(longest, "why 01 decides", &["coordinates"]);
+        for (name, count) in WHYS.iter().zip(&total.counts.whys) {
+            print_row(longest, name, &[count]);
         }
     }
 }

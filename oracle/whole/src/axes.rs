@@ -70,7 +70,7 @@ fn axes(lines: &mut Lines, font: FontRef) {
     }
 }
 
-/// The first so many instances: both name ids and the values, then the coordinates.
+/// The first so many instances: index, both name ids and the values, then the coordinates.
 pub fn instances(lines: &mut Lines, font: FontRef, most: usize) {
     let count = font.instances().len();
     for index in indices(count).into_iter().take(most) {
@@ -80,7 +80,8 @@ pub fn instances(lines: &mut Lines, font: FontRef, most: usize) {
                 let postscript = instance.postscript_name_id();
                 let postscript = postscript.map_or(EMPTY.to_string(), |id| id.to_raw().to_string());
                 let values = list_text(instance.values().map(float_text));
-                format!("{};{postscript};{values}", instance.name_id().to_raw())
+                let (index, name) = (instance.index(), instance.name_id().to_raw());
+                format!("{index};{name};{postscript};{values}")
             })
         });
         lines.put("instance", &[index.to_string(), answer]);
@@ -118,20 +119,12 @@ pub fn coords(lines: &mut Lines, font: FontRef, settings: &[(Tag, f32)]) {
     lines.put("coords", &[tags, values, answer]);
 }
 
-/// The grid, the ends and beyond them, the default and next to it, random ones, and what is no number.
+/// The grid, the ends and the default, next to them and beyond them, random ones, and what is no number.
 fn values(axis: &Variation, random: &mut Random) -> Vec<f32> {
     let [min, default, max] = [axis.min_value(), axis.default_value(), axis.max_value()];
-    let step = 1. / 65536.;
     let mut values = vec![
         min - 1.,
         max + 1.,
-        min - step,
-        min + step,
-        max - step,
-        max + step,
-        default,
-        default - step,
-        default + step,
         0.,
         -0.,
         f32::MIN,
@@ -140,10 +133,21 @@ fn values(axis: &Variation, random: &mut Random) -> Vec<f32> {
         f32::NEG_INFINITY,
         f32::NAN,
     ];
+    for value in [min, default, max] {
+        values.extend([value, beside(value, -1), beside(value, 1)]);
+    }
     values.extend((0..=STEPS).map(|k| min + (max - min) * (k as f32 / STEPS as f32)));
     values.extend((0..100).map(|_| within(axis, random)));
     values.extend((0..50).map(|_| f32::from_bits(random.bits() as u32)));
     values
+}
+
+/// The next float, or the one before; of a zero, the next 16.16 number.
+fn beside(value: f32, by: i32) -> f32 {
+    match value.to_bits() << 1 {
+        0 => by as f32 / 65536.,
+        _ => f32::from_bits(value.to_bits().wrapping_add_signed(by)),
+    }
 }
 
 pub fn within(axis: &Variation, random: &mut Random) -> f32 {
@@ -151,7 +155,8 @@ pub fn within(axis: &Variation, random: &mut Random) -> f32 {
     min + (max - min) * (random.below(1 << 24) as f32 / (1 << 24) as f32)
 }
 
-/// None; all axes at their ends, at random; a tag twice, and one that no axis has.
+/// None; all axes at their ends, at random, in fvar's order and the other way round; a tag twice, and one that no axis
+/// has.
 fn settings(axes: &[Variation], random: &mut Random) -> Vec<Vec<(Tag, f32)>> {
     let all = |value: &dyn Fn(&Variation) -> f32| {
         axes.iter().map(|axis| (axis.tag(), value(axis))).collect()
@@ -163,12 +168,15 @@ fn settings(axes: &[Variation], random: &mut Random) -> Vec<Vec<(Tag, f32)>> {
         all(&|axis| axis.default_value()),
         all(&|axis| axis.max_value()),
     ];
-    for _ in 0..100 {
-        settings.push(
-            axes.iter()
-                .map(|axis| (axis.tag(), within(axis, random)))
-                .collect(),
-        );
+    for k in 0..100 {
+        let mut all: Vec<_> = axes
+            .iter()
+            .map(|axis| (axis.tag(), within(axis, random)))
+            .collect();
+        if k % 2 == 1 {
+            all.reverse();
+        }
+        settings.push(all);
     }
     for axis in axes {
         let [first, second] = [within(axis, random), within(axis, random)];

@@ -1,5 +1,5 @@
-//! What no font of a shelf has, so that it is asked for too: a map of bearings, MVAR's indices as swash takes
-//! them, tags that vary the synthesized case, and, with glyf, vertical metrics that vary.
+//! What no font of a shelf has, so that it is asked for too: a map of bearings, an MVAR with every tag by which a
+//! measure varies, and, with glyf, vertical metrics that vary.
 
 use crate::face::{offset, place, record, Face};
 use crate::lines::Lines;
@@ -11,62 +11,80 @@ use swash::FontRef;
 /// Fewer than of a font as it is: a face is filled twice.
 const PAIRS: usize = metrics::PAIRS / 3;
 
+/// Those by which swash varies a measure, in order.
+const TAGS: [&[u8; 4]; 11] = [
+    b"cpht", b"hasc", b"hdsc", b"hlgp", b"stro", b"undo", b"unds", b"vasc", b"vdsc", b"vlgp",
+    b"xhgt",
+];
+
 /// Bytes that become other ones.
 type Change = (usize, Vec<u8>);
 
-fn u16_at(data: &[u8], p: usize) -> usize {
-    data.get(p..p + 2)
-        .map_or(0, |b| u16::from_be_bytes([b[0], b[1]]) as usize)
+/// What the directory has of a table behind its tag.
+type Place = [u8; 12];
+
+fn u16_at(data: &[u8], p: usize) -> Option<usize> {
+    let bytes = data.get(p..p + 2)?;
+    Some(u16::from_be_bytes([bytes[0], bytes[1]]) as usize)
+}
+
+fn u32_at(data: &[u8], p: usize) -> Option<usize> {
+    Some(u16_at(data, p)? << 16 | u16_at(data, p + 2)?)
 }
 
 /// The map of advances for the bearings too.
-fn maps(font: &FontRef, changes: &mut Vec<Change>) {
+fn maps(font: &FontRef) -> Vec<Change> {
+    let mut changes = vec![];
     for tag in [b"HVAR", b"VVAR"] {
         let (start, length) = place(font, tag);
         if length >= 16 && font.data[start + 8..start + 12] != [0; 4] {
             changes.push((start + 12, font.data[start + 8..start + 12].to_vec()));
         }
     }
+    changes
 }
 
-/// MVAR's records have outer and inner index in OpenType's order, which swash takes the other way round. Some
-/// get other tags, in order as before: those that vary the synthesized case, and one that must count with
-/// vertical metrics alone; or, with these, two that do.
-fn records(font: &FontRef, vertical: bool, changes: &mut Vec<Change>) {
-    let (start, length) = place(font, b"MVAR");
-    let count = match length {
-        0 => 0,
-        _ => u16_at(font.data, start + 8),
-    };
-    if count < 3 || length < 12 + 8 * count {
-        return;
+/// An MVAR over HVAR's store, or none where that has no row: each tag has a row of the first subtable, another one as
+/// long as there are. The inner index stands first, as swash takes it.
+fn mvar(font: &FontRef) -> Option<Vec<u8>> {
+    let (start, length) = place(font, b"HVAR");
+    let table = &font.data[start..start + length];
+    let store = table.get(u32_at(table, 4)?..)?;
+    let rows = u16_at(store, u32_at(store, 8)?).filter(|rows| *rows > 0)?;
+    let numbers = [1, 0, 0, 8, TAGS.len(), 12 + 8 * TAGS.len()];
+    let mut mvar: Vec<u8> = numbers.map(|n| (n as u16).to_be_bytes()).concat();
+    for (k, tag) in TAGS.iter().enumerate() {
+        let inner = (k * rows / TAGS.len()) as u16;
+        mvar.extend([&tag[..], &inner.to_be_bytes(), &[0, 0]].concat());
     }
-    let record = |k: usize| start + 12 + 8 * k;
-    for k in 0..count {
-        let p = record(k) + 4;
-        changes.push((p, [&font.data[p + 2..p + 4], &font.data[p..p + 2]].concat()));
-    }
-    let tags: &[(usize, &[u8])] = match vertical {
-        true => &[(count - 2, b"vasc"), (count - 1, b"vdsc")],
-        false => &[(0, b"hasc"), (1, b"hdsc"), (count - 1, b"vasc")],
-    };
-    changes.extend(tags.iter().map(|(k, tag)| (record(*k), tag.to_vec())));
+    mvar.extend(store);
+    Some(mvar)
 }
 
-/// A directory with three more tables: horizontal ones once more, for vertical type.
-fn directory(font: &FontRef) -> Option<Vec<u8>> {
+/// The horizontal tables once more, for vertical type.
+fn upright(font: &FontRef) -> Option<Vec<(&'static [u8; 4], Place)>> {
+    let of = |(tag, like)| {
+        let p = record(font, like)?;
+        Some((tag, font.data[p + 4..p + 16].try_into().ok()?))
+    };
+    [(b"VVAR", b"HVAR"), (b"vhea", b"hhea"), (b"vmtx", b"hmtx")]
+        .map(of)
+        .into_iter()
+        .collect()
+}
+
+/// The directory with some tables more, or with others in the place of those that it has.
+fn directory(font: &FontRef, tables: &[(&[u8; 4], Place)]) -> Option<Vec<u8>> {
     let start = font.offset as usize;
-    let count = u16_at(font.data, start + 4);
+    let count = u16_at(font.data, start + 4)?;
     let mut records: Vec<Vec<u8>> = font
         .data
         .get(start + 12..start + 12 + 16 * count)?
         .chunks(16)
+        .filter(|record| tables.iter().all(|(tag, _)| record[..4] != tag[..]))
         .map(<[u8]>::to_vec)
         .collect();
-    for (tag, like) in [(b"VVAR", b"HVAR"), (b"vhea", b"hhea"), (b"vmtx", b"hmtx")] {
-        let p = record(font, like)?;
-        records.push([tag, &font.data[p + 4..p + 16]].concat());
-    }
+    records.extend(tables.iter().map(|(tag, place)| [&tag[..], place].concat()));
     records.sort();
     let mut directory = font.data[start..start + 4].to_vec();
     directory.extend((records.len() as u16).to_be_bytes());
@@ -75,49 +93,50 @@ fn directory(font: &FontRef) -> Option<Vec<u8>> {
     Some(directory)
 }
 
-/// A copy with these changes, and perhaps another directory behind it.
+/// A copy with a map of bearings, this MVAR and another directory behind it, which may have the tables for vertical
+/// type too.
 fn one(
     lines: &mut Lines,
     face: &Face,
-    changes: &[Change],
-    behind: Option<Vec<u8>>,
+    mvar: &[u8],
+    vertical: bool,
     random: &mut Random,
-) {
+) -> Option<()> {
     let mut copy = face.font.data.to_vec();
-    for (p, new) in changes {
+    let changes = maps(&face.font);
+    for (p, new) in &changes {
         copy[*p..*p + new.len()].copy_from_slice(new);
     }
-    let start = behind
-        .as_ref()
-        .map_or(face.font.offset, |_| copy.len() as u32);
-    let behind = behind.unwrap_or_default();
-    copy.extend(&behind);
-    let Some(font) = FontRef::from_offset(&copy, start) else {
-        return lines.leave("it is not filled: swash can't open what it becomes");
-    };
-    let vvar = offset(&font, b"VVAR");
-    let mut words = vec![vvar.to_string(), bytes_text(behind.iter().copied())];
+    let mut place = [0; 12];
+    place[4..8].copy_from_slice(&(copy.len() as u32).to_be_bytes());
+    place[8..].copy_from_slice(&(mvar.len() as u32).to_be_bytes());
+    let mut tables = vec![(b"MVAR", place)];
+    if vertical {
+        tables.extend(upright(&face.font)?);
+    }
+    let directory = directory(&face.font, &tables)?;
+    let whole = copy.len();
+    copy.extend(mvar);
+    let start = copy.len() as u32;
+    copy.extend(directory);
+    let font = FontRef::from_offset(&copy, start)?;
+    let places = [b"VVAR", b"MVAR"].map(|tag| offset(&font, tag).to_string());
+    let mut words = places.to_vec();
+    words.push(bytes_text(copy[whole..].iter().copied()));
     for (p, new) in changes {
-        words.extend([p.to_string(), bytes_text(new.iter().copied())]);
+        words.extend([p.to_string(), bytes_text(new.into_iter())]);
     }
     lines.put("filled", &words);
     metrics::ask(lines, &Face { font, ..*face }, PAIRS, random);
+    Some(())
 }
 
 pub fn ask(lines: &mut Lines, face: &Face, random: &mut Random) {
+    let Some(mvar) = mvar(&face.font) else { return };
     for vertical in [false, true] {
-        let mut changes = vec![];
-        maps(&face.font, &mut changes);
-        records(&face.font, vertical, &mut changes);
         let suits = !vertical || (face.has(b"glyf") && !face.has(b"vhea"));
-        if changes.is_empty() || !suits {
-            continue;
+        if suits && one(lines, face, &mvar, vertical, random).is_none() {
+            lines.leave("it is not filled: swash can't open what it becomes");
         }
-        let behind = if vertical {
-            directory(&face.font)
-        } else {
-            None
-        };
-        one(lines, face, &changes, behind, random);
     }
 }

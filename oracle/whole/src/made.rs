@@ -3,7 +3,7 @@
 
 use crate::axes;
 use crate::face::Face;
-use crate::lines::Lines;
+use crate::lines::{tried, Lines};
 use crate::maps::{Avar, Pair};
 use crate::text::bytes_text;
 use std::io;
@@ -128,9 +128,21 @@ fn fvar(axis: Axis) -> Vec<u8> {
     fvar
 }
 
+/// Whether swash stops on an instance of size 1, whose PostScript name id is where this less 2 says: overflow checks
+/// are on.
+pub fn stops() -> bool {
+    let instance = [
+        0, 1, 0, 0, 0, 16, 0, 2, 0, 0, 0, 20, 0, 1, 0, 1, 1, 1, 0, 0, 0,
+    ];
+    let data = font(&instance, &[]);
+    let found = Face::at(&data, 0);
+    found.map_or(false, |face| {
+        tried(|| face.font.instances().nth(0)).is_none()
+    })
+}
+
 /// A font of nothing but fvar and avar, which ends the font.
-fn font(axis: Axis, avar: &[u8]) -> Vec<u8> {
-    let fvar = fvar(axis);
+fn font(fvar: &[u8], avar: &[u8]) -> Vec<u8> {
     let mut font = vec![0, 1, 0, 0, 0, 2, 0, 0, 0, 0, 0, 0];
     let start = font.len() + 2 * 16;
     for (tag, start, length) in [
@@ -154,7 +166,7 @@ fn exactly(value: i16) -> f32 {
 }
 
 fn one(lines: &mut Lines, what: &str, axis: Axis, avar: &[u8], values: &[f32]) {
-    let data = font(axis, avar);
+    let data = font(&fvar(axis), avar);
     let Some(face) = Face::at(&data, 0) else {
         return;
     };

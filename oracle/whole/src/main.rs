@@ -95,9 +95,6 @@ fn file(lines: &mut Lines, folder: &Path, path: &Path, rounds: u64, seed: u64) -
 
 fn fonts(folder: &Path, rounds: u64, seed: u64) -> io::Result<()> {
     let files = Files::below(folder)?;
-    if files.fonts.is_empty() {
-        return Err(io::Error::other("no font below it"));
-    }
     let mut lines = Lines::new();
     for (path, why) in &files.left {
         lines.put("left out", &[path_text(path), why.clone()]);
@@ -128,6 +125,10 @@ fn main() -> ExitCode {
             eprintln!("swash: a fault of its own: {fault}");
         }
     }));
+    if !made::stops() {
+        eprintln!("swash: built without overflow checks, it does not stop where it must");
+        return ExitCode::from(2);
+    }
     let words: Vec<OsString> = std::env::args_os().skip(1).collect();
     match run(&words) {
         Some(Ok(())) => ExitCode::SUCCESS,

@@ -117,8 +117,8 @@ fn change(map: &mut Vec<Pair>, random: &mut Random) {
     }
 }
 
-/// A table with a few things changed: maps, how many there are, single numbers; it may be cut, and some
-/// bytes may stand behind it.
+/// A table with a few things changed: maps, how many there are, single numbers, what stands before the axis
+/// count; it may be cut, and some bytes may stand behind it.
 fn damaged(avar: &Avar, random: &mut Random) -> Vec<u8> {
     let mut avar = avar.clone();
     let kind = random.below(10);
@@ -127,6 +127,10 @@ fn damaged(avar: &Avar, random: &mut Random) -> Vec<u8> {
         if let Some(map) = avar.maps.get_mut(k) {
             change(map, random);
         }
+    }
+    if kind == 4 {
+        // neither side looks at version and reserved field
+        avar.header = avar.header.map(|_| random.bits() as u8);
     }
     if kind == 0 {
         avar.count = [

@@ -21,8 +21,9 @@ enum Scale {
 
 use Scale::{Linear, Plain, Ppem};
 
-const SCALES: [Scale; 12] = [
+const SCALES: [Scale; 13] = [
     Plain,
+    Ppem(-16.),
     Ppem(16.),
     Linear(0.125),
     Ppem(12.7),
@@ -53,11 +54,13 @@ impl Scale {
         }
     }
 
+    /// A scale replaces the one before.
     fn glyphs(self, metrics: GlyphMetrics) -> GlyphMetrics {
+        let before = metrics.linear_scale(-7.);
         match self {
             Plain => metrics,
-            Ppem(x) => metrics.scale(x),
-            Linear(x) => metrics.linear_scale(x),
+            Ppem(x) => before.scale(x),
+            Linear(x) => before.linear_scale(x),
         }
     }
 }

@@ -17,8 +17,8 @@ use Rattle.readers.specs.Reading.{Done, bigEndian, unsignedAt, signedAt, run}
 use Rattle.readers.specs.Walk.{turns, walk}
 use Rattle.readers.proofs.Bytes.{present, missing, whole}
 use Rattle.readers.proofs.Reading.{answered}
-use Rattle.axes.specs.Axis.{Axis}
-use Rattle.axes.specs.Fvar.{Header, axisRecord, axis, matches, tagTurn}
+use Rattle.opentype.specs.Axis.{Axis}
+use Rattle.opentype.specs.Fvar.{Header, axisRecord, axis, matches, tagTurn}
 use Rattle.readers.proofs.Passed.{cut-later, test-held}
 
 -- Whether an outcome is a value.

@@ -19,7 +19,7 @@ use Rattle.readers.specs.declared.F2Dot14Answer.{F2Dot14Answer}
 use Rattle.readers.specs.declared.F2Dot14Answer.the-variants as D
 use Rattle.readers.proofs.Outcome.{onward-by, halt-by, unless-true, unless-false}
 use Rattle.readers.proofs.Lent.{fill-at, fill-same}
-use Rattle.axes.specs.Variation.{coordTurn, passed, counted}
+use Rattle.opentype.specs.Variation.{coordTurn, passed, counted}
 
 module _ {C : Type 0} (d : Outcome ℤ) (f : ℤ → Outcome C) where
   pub onward-coord : (w : Outcome C) {r : F2Dot14Answer} {x : F2Dot14} → outcomeF2Dot14 r ≡ d → r ≡ D.Value x → w ≡ f (x .0) → w ≡ onward d f

@@ -8,8 +8,8 @@ use lib.ListN.{length}
 use Rattle.numbers.specs.One.{One, OneSeen, _and_}
 use Rattle.readers.specs.Outcome.{Outcome}
 use Rattle.readers.proofs.One.{refusal-back, back, one-by, one16, oneFixed}
-use Rattle.axes.specs.Axis.{Axis}
-use Rattle.axes.specs.Fvar.{Header, NameID, absent, named, Instance}
+use Rattle.opentype.specs.Axis.{Axis}
+use Rattle.opentype.specs.Fvar.{Header, NameID, absent, named, Instance}
 use Rattle.axes.specs.FvarAnswers.{header, axisOutcome, nameOf, instanceOutcome}
 use Rattle.axes.specs.declared.axis.VarAxis.{VarAxis}
 use Rattle.axes.specs.declared.fvar.Fvar.{Fvar}

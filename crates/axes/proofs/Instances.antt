@@ -11,9 +11,9 @@ use Rattle.readers.specs.Reading.{bigEndian, unsignedAt, run}
 use Rattle.readers.specs.Answers.{refusal}
 use Rattle.readers.specs.declared.Refusal.{Refusal}
 use Rattle.readers.proofs.Reading.{answered}
-use Rattle.axes.specs.Fvar.{Header, InstanceRecord, instanceStart, instanceRecord, instanceValues}
+use Rattle.opentype.specs.Fvar.{Header, InstanceRecord, instanceStart, instanceRecord, instanceValues}
 use Rattle.axes.specs.FvarAnswers.{recordOf, recordOutcome}
-use Rattle.axes.specs.Values.{floatCount}
+use Rattle.opentype.specs.Values.{floatCount}
 use Rattle.axes.specs.declared.fvar.Record.{Record}
 use Rattle.axes.specs.declared.fvar.RecordAnswer.{RecordAnswer}
 use Rattle.axes.specs.declared.fvar.RecordAnswer.the-variants as R

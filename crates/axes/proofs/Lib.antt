@@ -1,4 +1,4 @@
--- The laws that the proofs of `axes` share, by subject; the theorem of normalising; the document's examples; no second answer.
+-- The laws that the proofs of `axes` share, by subject; the theorem of normalising; no second answer.
 pub mod Quotient
 pub mod Maps
 pub mod Axes
@@ -6,7 +6,6 @@ pub mod Instances
 pub mod Coords
 pub mod Parts
 pub mod Normalizing
-pub mod AxisTable
 pub mod AxisOne
 pub mod FvarOne
 pub mod VariationOne

@@ -9,7 +9,7 @@ use Rattle.readers.specs.Walk.{turns, walk}
 use Rattle.readers.specs.Answers.{refusal}
 use Rattle.readers.specs.declared.Refusal.{Refusal}
 use Rattle.readers.proofs.Reading.{took-by, stop-by}
-use Rattle.axes.specs.Avar.{SegmentMap, mapTurn, mapAt, segmentMap, Pair}
+use Rattle.opentype.specs.Avar.{SegmentMap, mapTurn, mapAt, segmentMap, Pair}
 use Rattle.axes.specs.AxisAnswers.{mapOf, mapOutcome, pairOf, pairOutcome}
 use Rattle.axes.specs.declared.avar.SegmentMap as S
 use Rattle.axes.specs.declared.avar.MapAnswer.{MapAnswer}

@@ -10,7 +10,7 @@ use lib.Signed.{ltZ, _≤ℤ_}
 use Rattle.numbers.specs.Numbers.{minus}
 use Rattle.numbers.proofs.Bits.{wrap-small}
 use Rattle.readers.specs.Outcome.{Outcome, value, valueOr}
-use Rattle.axes.specs.Axis.{Axis, clamped, fraction, fromDefault, normalizedCoord}
+use Rattle.opentype.specs.Axis.{Axis, clamped, fraction, fromDefault, normalizedCoord}
 use Rattle.numbers.proofs.Gaps.{gap, one-way, around, lt-gap, nlt-gap, le-gap, gap-minus, no-gap, sub-none, none-sub, sub-mono}
 use Rattle.axes.proofs.Parts.{either, share-none, share-all, share-le, share-mono, rise, fall, ended, none-ends, part-rises, part-falls}
 

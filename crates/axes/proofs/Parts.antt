@@ -12,8 +12,8 @@ use Rattle.numbers.specs.Numbers.{wrap16, floorZ, negated, toF2dot14}
 use Rattle.numbers.proofs.Bits.{sub-ind, wrap-small, mag-neg, wrap16-small}
 use Rattle.numbers.proofs.Laws.{ratio-mono, part-le, over-part, over-self}
 use Rattle.readers.specs.Outcome.{Outcome, value, onward}
-use Rattle.axes.specs.Avar.{adjusted}
-use Rattle.axes.specs.Axis.{fraction, held}
+use Rattle.opentype.specs.Avar.{adjusted}
+use Rattle.opentype.specs.Axis.{fraction, held}
 use Rattle.axes.proofs.Quotient.{part-not-least}
 
 -- a choice by a test, by its two cases

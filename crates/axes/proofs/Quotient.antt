@@ -12,7 +12,7 @@ use borrow.Author.Tests.{le-ltb, eq-eqb, ne-eqb, eqb-true, eqb-false, ltb-true, 
 use Rattle.numbers.specs.Numbers.{wrap32, negated, isNeg, unlike, withSign, quotient, over}
 use Rattle.numbers.proofs.Laws.{part-le}
 use Rattle.readers.specs.Outcome.{value}
-use Rattle.axes.specs.Axis.{isLeast, fraction}
+use Rattle.opentype.specs.Axis.{isLeast, fraction}
 
 -- Two tests of which each holds where the other does are one.
 same-test : (a b x y : ℕ) → (a ≡ x → b ≡ y) → (b ≡ y → a ≡ x) → eqb a x ≡ eqb b y

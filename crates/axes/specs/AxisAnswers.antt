@@ -1,8 +1,8 @@
 -- The number and the values that the answers and structs of `axis` and `avar` have.
 use Rattle.readers.specs.Outcome.{Outcome, value}
 use Rattle.readers.specs.Answers.{refusal}
-use Rattle.axes.specs.Axis.{Axis}
-use Rattle.axes.specs.Avar.{SegmentMap, Pair}
+use Rattle.opentype.specs.Axis.{Axis}
+use Rattle.opentype.specs.Avar.{SegmentMap, Pair}
 use Rattle.axes.specs.declared.axis.VarAxis.{VarAxis}
 use Rattle.axes.specs.declared.avar.SegmentMap as S
 use Rattle.axes.specs.declared.avar.MapAnswer.{MapAnswer}

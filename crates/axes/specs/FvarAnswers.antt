@@ -1,9 +1,9 @@
 -- The header, and the number and the value that each answer of `fvar` has.
 use Rattle.readers.specs.Outcome.{Outcome, value}
 use Rattle.readers.specs.Answers.{refusal}
-use Rattle.axes.specs.Axis.{Axis}
+use Rattle.opentype.specs.Axis.{Axis}
 use Rattle.axes.specs.AxisAnswers.{axisOf}
-use Rattle.axes.specs.Fvar.{Header, InstanceRecord, NameID, absent, named, Instance}
+use Rattle.opentype.specs.Fvar.{Header, InstanceRecord, NameID, absent, named, Instance}
 use Rattle.axes.specs.declared.fvar.Fvar.{Fvar}
 use Rattle.axes.specs.declared.fvar.AxisAnswer.{AxisAnswer}
 use Rattle.axes.specs.declared.fvar.AxisAnswer.the-variants as A

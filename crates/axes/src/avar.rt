@@ -12,7 +12,7 @@ ghost use Prim.Native.Nat.{_+_, _*_, _^_, _<_, _≤_};
 ghost use lib.ListN.{length};
 ghost use Rattle.readers.specs.Reading.{run};
 ghost use Rattle.readers.specs.Answers.{outcomeFixed};
-ghost use Rattle.axes.specs.Avar.{mapAt, segmentMap, pairAt, between, applied, adjusted};
+ghost use Rattle.opentype.specs.Avar.{mapAt, segmentMap, pairAt, between, applied, adjusted};
 ghost use Rattle.axes.specs.AxisAnswers.{mapOf, mapOutcome, pairOf, pairOutcome};
 
 // Where the pairs of an axis's map start, and how many they are.

@@ -7,7 +7,7 @@ use readers::Refusal;
 ghost use mathlib.Core.Path.{_≡_};
 ghost use Rattle.numbers.specs.Floats.{toFloat};
 ghost use Rattle.readers.specs.Answers.{outcomeFixed, outcomeF2Dot14};
-ghost use Rattle.axes.specs.Axis.{hidden, clamped, isLeast, fraction, fromDefault, held, normalizedCoord};
+ghost use Rattle.opentype.specs.Axis.{hidden, clamped, isLeast, fraction, fromDefault, held, normalizedCoord};
 ghost use Rattle.axes.specs.AxisAnswers.{axisOf};
 
 // Axis of variation in a variable font.

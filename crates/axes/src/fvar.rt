@@ -15,9 +15,9 @@ ghost use lib.ListN.{length};
 ghost use Rattle.readers.specs.Outcome.{number as numberIn, valueOr};
 ghost use Rattle.readers.specs.Reading.{run, unsignedAt};
 ghost use Rattle.readers.specs.Answers.{outcome16, outcome32, outcomeFixed};
-ghost use Rattle.axes.specs.Fvar.{headerOf, fieldAt, axisRecord, axis, axisByTag, instanceStart, instanceRecord, postScriptNameID, instance, instanceValues, instanceValue};
+ghost use Rattle.opentype.specs.Fvar.{headerOf, fieldAt, axisRecord, axis, axisByTag, instanceStart, instanceRecord, postScriptNameID, instance, instanceValues, instanceValue};
 ghost use Rattle.axes.specs.FvarAnswers.{header, axisOutcome, nameOf, instanceOutcome, recordOutcome};
-ghost use Rattle.axes.specs.Values.{valueIn, floatCount, floatsIn};
+ghost use Rattle.opentype.specs.Values.{valueIn, floatCount, floatsIn};
 
 // Font variations table: the numbers of its header.
 pub struct Fvar {

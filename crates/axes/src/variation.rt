@@ -17,9 +17,9 @@ ghost use Rattle.readers.specs.Outcome.{valueOr};
 ghost use Rattle.readers.specs.Reading.{run};
 ghost use Rattle.readers.specs.Lent.{fill};
 ghost use Rattle.readers.specs.Answers.{outcome16, outcomeF2Dot14};
-ghost use Rattle.axes.specs.Axis.{noAxis};
-ghost use Rattle.axes.specs.Fvar.{axis};
-ghost use Rattle.axes.specs.Variation.{passed, coordsIn, axisCoord, settingCoord, settingsCount, settingsCoords, valueCoord, instanceCount, instanceCoords};
+ghost use Rattle.opentype.specs.Axis.{noAxis};
+ghost use Rattle.opentype.specs.Fvar.{axis};
+ghost use Rattle.opentype.specs.Variation.{passed, coordsIn, axisCoord, settingCoord, settingsCount, settingsCoords, valueCoord, instanceCount, instanceCoords};
 ghost use Rattle.axes.specs.AxisAnswers.{axisOf};
 ghost use Rattle.axes.specs.FvarAnswers.{header};
 

@@ -7,7 +7,7 @@ use lib.ListN.{take}
 use Rattle.numbers.specs.Numbers.{wrap32, plus, minus, timesOver}
 use Rattle.readers.specs.Reading.{unsignedAt, signedAt, bigEndian, run}
 use Rattle.readers.specs.Walk.{turns, walk}
-use Rattle.axes.specs.Avar.{mapTurn, mapAt, segmentMap, pairAt, between, pairTurn, noPair, applied, adjusted}
+use Rattle.opentype.specs.Avar.{mapTurn, mapAt, segmentMap, pairAt, between, pairTurn, noPair, applied, adjusted}
 use Rattle.examples.proofs.Written.{negative}
 
 -- What every example unfolds.

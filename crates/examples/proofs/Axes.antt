@@ -10,11 +10,11 @@ use Rattle.readers.specs.Outcome.{value}
 use Rattle.readers.specs.Reading.{unsignedAt, signedAt, bigEndian, run}
 use Rattle.readers.specs.Walk.{turns, walk}
 use Rattle.readers.specs.Lent.{fill}
-use Rattle.axes.specs.Avar.{mapTurn, mapAt, segmentMap, pairAt, between, pairTurn, noPair, applied, adjusted}
-use Rattle.axes.specs.Axis.{Axis, noAxis, hidden, clamped, fraction, fromDefault, normalizedCoord}
-use Rattle.axes.specs.Fvar.{fieldAt, headerOf, axisRecord, axis, instanceRecord, instanceValues, instanceValue}
-use Rattle.axes.specs.Values.{valueIn}
-use Rattle.axes.specs.Variation.{coordTurn, passed, counted, coordsIn, valueCoord, instanceCount, instanceCoords}
+use Rattle.opentype.specs.Avar.{mapTurn, mapAt, segmentMap, pairAt, between, pairTurn, noPair, applied, adjusted}
+use Rattle.opentype.specs.Axis.{Axis, noAxis, hidden, clamped, fraction, fromDefault, normalizedCoord}
+use Rattle.opentype.specs.Fvar.{fieldAt, headerOf, axisRecord, axis, instanceRecord, instanceValues, instanceValue}
+use Rattle.opentype.specs.Values.{valueIn}
+use Rattle.opentype.specs.Variation.{coordTurn, passed, counted, coordsIn, valueCoord, instanceCount, instanceCoords}
 use Rattle.examples.proofs.Written.{axisBy}
 
 -- An axis of which the flags alone are not 0.

@@ -5,13 +5,13 @@ use Prim.Native.Nat.{ℕ}
 use lib.IntN.{pos}
 use lib.ListN.{drop}
 use Rattle.readers.specs.Outcome.{value, refused, number, valueOr}
-use Rattle.store.specs.Metric.{DeltaSetIndex, deltaSetIndexOf, advance, bearing, metricDelta, floatOf}
-use Rattle.store.specs.Mvar.{Header, Opened, opened, noMvar, openedDelta, openedFloat}
-use Rattle.store.specs.MvarTags.{hasc}
-use Rattle.store.specs.MvarDeltas.{Deltas}
+use Rattle.opentype.specs.Metric.{DeltaSetIndex, deltaSetIndexOf, advance, bearing, metricDelta, floatOf}
+use Rattle.opentype.specs.Mvar.{Header, Opened, opened, noMvar, openedDelta, openedFloat}
+use Rattle.opentype.specs.MvarTags.{hasc}
+use Rattle.opentype.specs.MvarDeltas.{Deltas}
 use Rattle.store.specs.MvarDeltasAnswers.{wantedBy}
 use Rattle.store.specs.declared.mvar_deltas.Wanted.the-variants as W
-use Rattle.store.proofs.DeltaTable.{mapped, s1-font, s2-font}
+use Rattle.opentype.proofs.DeltaTable.{mapped, s1-font, s2-font}
 use Rattle.metrics.proofs.MeasuresTable.{computing-measures, mvarFont, default}
 use Rattle.examples.proofs.Written.{float}
 

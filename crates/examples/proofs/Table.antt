@@ -8,11 +8,11 @@ use Rattle.numbers.specs.Numbers.{wrap16, plus, minus, negated, times, over, ti
 use Rattle.numbers.specs.Floats.{ofFloat}
 use Rattle.readers.specs.Outcome.{Outcome, value, refused}
 use Rattle.readers.specs.Reading.{run}
-use Rattle.axes.specs.Avar.{mapTurn, mapAt, segmentMap, pairAt, between, pairTurn, noPair, applied, adjusted}
-use Rattle.axes.specs.Axis.{clamped, fraction, fromDefault, normalizedCoord}
-use Rattle.store.specs.Region.{regionScalar}
-use Rattle.store.specs.Metric.{advance, metricDelta}
-use Rattle.store.proofs.DeltaTable.{computing, s1-font, s2-font, s3-font, s4-font, s5-font, h1-font}
+use Rattle.opentype.specs.Avar.{mapTurn, mapAt, segmentMap, pairAt, between, pairTurn, noPair, applied, adjusted}
+use Rattle.opentype.specs.Axis.{clamped, fraction, fromDefault, normalizedCoord}
+use Rattle.opentype.specs.Region.{regionScalar}
+use Rattle.opentype.specs.Metric.{advance, metricDelta}
+use Rattle.opentype.proofs.DeltaTable.{computing, s1-font, s2-font, s3-font, s4-font, s5-font, h1-font}
 use Rattle.examples.proofs.Written.{negative, float, axisBy}
 
 -- An axis min/default/max, and a value of it normalised without avar, all raw.

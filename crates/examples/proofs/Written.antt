@@ -2,7 +2,7 @@
 use Prim.Native.Nat.{ℕ}
 use lib.IntN.{ℤ, pos, negℤ}
 use lib.Ieee.{Float, binary32, ofBits}
-use Rattle.axes.specs.Axis.{Axis}
+use Rattle.opentype.specs.Axis.{Axis}
 
 -- Minus n.
 abbrev pub negative : ℕ → ℤ

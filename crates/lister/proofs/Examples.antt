@@ -3,7 +3,7 @@ use mathlib.Core.Path.{_≡_, refl}
 use mathlib.Core.List.{List, [], _∷_, _++_}
 use Prim.Native.Nat.{ℕ}
 use Rattle.readers.specs.Reading.{unsignedAt, signedAt, bigEndian, run}
-use Rattle.axes.specs.Fvar.{fieldAt, headerOf, axisRecord, axis}
+use Rattle.opentype.specs.Fvar.{fieldAt, headerOf, axisRecord, axis}
 use Rattle.listing.specs.Text.{ascii, digit, digits, placesIn, places, decimal, signed, hex8}
 use Rattle.listing.specs.Lines.{line, countsLine, axisLine, refusedLine}
 use Rattle.lister.specs.Listing.{axisLines, tableText, listing}

@@ -8,7 +8,7 @@ use borrow.Author.Tests.{leb-true, leb-false, le-leb, lt-leb}
 use lib.Dec.{leb}
 use lib.ListN.{length, take}
 use lib.Seq.{take-all, length-take-le}
-use Rattle.axes.specs.Fvar.{headerOf}
+use Rattle.opentype.specs.Fvar.{headerOf}
 use Rattle.listing.specs.Lines.{tooLongLine}
 use Rattle.lister.specs.Listing.{tableText, listing}
 

@@ -6,7 +6,7 @@ use native.Mathlib.Numerals.{add-one}
 use native.Mathlib.Omega.{arith}
 use lib.ListN.{length, take}
 use lib.Seq.{length-sets, take-at}
-use Rattle.axes.specs.Fvar.{Header}
+use Rattle.opentype.specs.Fvar.{Header}
 use Rattle.listing.specs.Text.{Put}
 use Rattle.listing.proofs.Puts.{then}
 use Rattle.lister.specs.Listing.{axisText, axisLines}

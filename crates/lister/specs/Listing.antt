@@ -6,8 +6,8 @@ use lib.Dec.{leb}
 use lib.ListN.{length}
 use Rattle.readers.specs.Outcome.{Outcome, value, refused}
 use Rattle.readers.specs.Reading.{run}
-use Rattle.axes.specs.Axis.{Axis}
-use Rattle.axes.specs.Fvar.{Header, headerOf, axis}
+use Rattle.opentype.specs.Axis.{Axis}
+use Rattle.opentype.specs.Fvar.{Header, headerOf, axis}
 use Rattle.listing.specs.Lines.{countsLine, axisLine, refusedLine, tooLongLine}
 
 -- Per axis: index, tag, raw min, default, max, flags, name id; or index, `refused`, number.

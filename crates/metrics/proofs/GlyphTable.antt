@@ -7,7 +7,7 @@ use mathlib.Core.Option.{none, some}
 use lib.IntN.{pos, negsuc}
 use lib.ListN.{drop}
 use lib.Ieee.{Float, fin, inf, nan}
-use Rattle.store.proofs.DeltaTable.{mapped}
+use Rattle.opentype.proofs.DeltaTable.{mapped}
 use Rattle.metrics.specs.Scale.{float}
 use Rattle.metrics.specs.Vertical.{Vertical, vmtxGlyf, vmtxVorg, synthesized, hasVerticalMetrics, synthesizedFrom, materializedVertical}
 use Rattle.metrics.specs.Glyph.{GlyphMetrics, hasVariations, withScale, scaledGlyphs, advanceWidth, leftBearing, advanceHeight, topBearing, verticalOrigin}

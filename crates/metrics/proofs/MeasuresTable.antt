@@ -7,8 +7,8 @@ use lib.IntN.{ℤ, pos, negsuc}
 use lib.ListN.{drop}
 use lib.Ieee.{Float, fin, nan, inf, binary32, ofBits, add, mul, div, ofInt, eq}
 use Rattle.numbers.specs.Floats.{toFloat}
-use Rattle.store.specs.Mvar.{headerAt, indexIn, searchIn, find, tagDelta, mvarDelta}
-use Rattle.store.proofs.DeltaTable.{computing}
+use Rattle.opentype.specs.Mvar.{headerAt, indexIn, searchIn, find, tagDelta, mvarDelta}
+use Rattle.opentype.proofs.DeltaTable.{computing}
 use Rattle.metrics.specs.Scale.{float, scaleFor}
 use Rattle.metrics.specs.Measures.{Metrics, varies, materializedMetrics, linearScaled, scaledMetrics}
 

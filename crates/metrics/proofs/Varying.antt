@@ -11,9 +11,9 @@ use lib.Ieee.{Float}
 use borrow.Author.Tests.{eq-eqb, ne-eqb}
 use Rattle.readers.specs.Outcome.{Outcome, valueOr, number}
 use Rattle.readers.specs.Reading.{run}
-use Rattle.store.specs.Metric.{floatOf}
-use Rattle.store.specs.Mvar.{Header, headerAt, opened, noMvar, openedFloat}
-use Rattle.store.specs.MvarDeltas.{deltasBy}
+use Rattle.opentype.specs.Metric.{floatOf}
+use Rattle.opentype.specs.Mvar.{Header, headerAt, opened, noMvar, openedFloat}
+use Rattle.opentype.specs.MvarDeltas.{deltasBy}
 use Rattle.store.proofs.Opened.{opened-answers, read-by-number, refused-by-number}
 use Rattle.metrics.specs.Measures.{Metrics, Follows, always, vertically, never, each, shift, shifted, opens, varies, measureDelta}
 use Rattle.metrics.specs.Structs.{shiftVertical, tagged}

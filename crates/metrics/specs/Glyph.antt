@@ -8,7 +8,7 @@ use lib.IntN.{ℤ, pos}
 use lib.Ieee.{Float}
 use mir.Syntax.{w16}
 use mir.Val.{toZ}
-use Rattle.store.specs.Metric.{Measure, advance, bearing, metricDelta, floatOf}
+use Rattle.opentype.specs.Metric.{Measure, advance, bearing, metricDelta, floatOf}
 use Rattle.metrics.specs.Scale.{zero, plus, times, float, adjusted, scaleFor}
 use Rattle.metrics.specs.Vertical.{Vertical, vmtxGlyf, vmtxVorg, synthesized, materializedVertical}
 

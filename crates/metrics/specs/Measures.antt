@@ -8,9 +8,9 @@ use lib.IntN.{ℤ}
 use lib.Ieee.{Float}
 use Rattle.readers.specs.Outcome.{Outcome, value, refused}
 use Rattle.readers.specs.Reading.{run}
-use Rattle.store.specs.Metric.{floatOf}
-use Rattle.store.specs.Mvar.{Header, headerAt, mvarDelta}
-use Rattle.store.specs.MvarTags.{hasc, hdsc, hlgp, vasc, vdsc, vlgp, cpht, xhgt, undo, stro, unds}
+use Rattle.opentype.specs.Metric.{floatOf}
+use Rattle.opentype.specs.Mvar.{Header, headerAt, mvarDelta}
+use Rattle.opentype.specs.MvarTags.{hasc, hdsc, hlgp, vasc, vdsc, vlgp, cpht, xhgt, undo, stro, unds}
 use Rattle.metrics.specs.Scale.{plus, times, scaleFor}
 
 -- The thirteen float measures; units per em, glyph count and the two flags ride along.

@@ -5,8 +5,8 @@ use mathlib.Core.Option.{Option, none, some}
 use lib.Dec.{eqb}
 use lib.IntN.{ℤ}
 use lib.Ieee.{Float}
-use Rattle.store.specs.MvarTags as T
-use Rattle.store.specs.MvarDeltas.{Deltas}
+use Rattle.opentype.specs.MvarTags as T
+use Rattle.opentype.specs.MvarDeltas.{Deltas}
 use Rattle.metrics.specs.Scale.{plus, zero}
 use Rattle.metrics.specs.Measures as Measures
 use Rattle.metrics.specs.Measures.{Follows, always, vertically, never}

@@ -4,7 +4,7 @@ use store::mvar_deltas::MeasureDeltas;
 use store::mvar_deltas::Wanted;
 ghost use mathlib.Core.Path.{_≡_};
 ghost use Rattle.readers.specs.Outcome.{valueOr, number as numberIn};
-ghost use Rattle.store.specs.Mvar.{opened, noMvar, openedFloat};
+ghost use Rattle.opentype.specs.Mvar.{opened, noMvar, openedFloat};
 ghost use Rattle.store.specs.MvarDeltasAnswers.{deltasOf, wantedBy};
 
 // Opens the MVAR at an offset of the font, once, and asks it for the deltas that are wanted. The number of a refusal stands beside them, 0 for none; of a refused MVAR they are all 0.0.

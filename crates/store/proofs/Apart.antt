@@ -37,7 +37,7 @@ use denote.Triple.Spec.{Meets, tripleOf}
 use denote.Triple.Walked.{says, Silent, Stays, stay-none, walkOf, goes-none, Walks, ends-at, walked, walk-meets}
 use denote.Exit.{Last, yes}
 use denote.Triple.Clauses.{Ended, Clauses, closing, ensured, lasts}
-use Rattle.store.specs.Mvar.{Opened}
+use Rattle.opentype.specs.Mvar.{Opened}
 use Rattle.store.specs.MvarAnswers.{openedAs, openedOf}
 use Rattle.store.specs.declared.mvar.Mvar.{Mvar}
 use Rattle.store.proofs.mvar.Mvar as T

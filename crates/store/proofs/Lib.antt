@@ -1,12 +1,9 @@
--- Small fonts, computed; the laws that the proofs of `store` share, by subject; scalars in their range; demand 3; no second answer.
-pub mod DeltaTable
-pub mod MvarTable
+-- The laws that the proofs of `store` share, by subject; scalars in their range; demand 3; no second answer.
 pub mod Triples
 pub mod Scalars
 pub mod SameParts
 pub mod Moved
 pub mod OnlyFootprint
-pub mod FootprintTable
 pub mod Entries
 pub mod Places
 pub mod Search

@@ -10,8 +10,8 @@ use native.Mathlib.Omega.{arith}
 use borrow.Author.Tests.{le-leb, lt-leb, leb-true, leb-false}
 use Rattle.readers.specs.Reading.{Reading, bytesAt, bigEndian, unsignedAt, signedAt, run}
 use Rattle.readers.proofs.TwoFonts.{answer-same}
-use Rattle.store.specs.Region.{tripleAt}
-use Rattle.store.specs.Footprint.{Part, bytes, triple, covers, uses, moved, EqualOver}
+use Rattle.opentype.specs.Region.{tripleAt}
+use Rattle.opentype.specs.Footprint.{Part, bytes, triple, covers, uses, moved, EqualOver}
 
 -- Two tests that ask the same.
 leb-alike : (a b c d : ℕ) → (c ≤ d → a ≤ b) → (d < c → b < a) → leb a b ≡ leb c d

@@ -2,7 +2,7 @@
 use mathlib.Core.Path.{_≡_, refl, ap}
 use Rattle.numbers.specs.One.{One}
 use Rattle.readers.proofs.One.{refusal-back, back, one-by, oneFixed}
-use Rattle.store.specs.Mvar.{Header}
+use Rattle.opentype.specs.Mvar.{Header}
 use Rattle.store.specs.MvarAnswers.{headerOutcome}
 use Rattle.store.specs.declared.mvar.HeaderAnswer.{HeaderAnswer}
 use Rattle.store.specs.declared.mvar.HeaderAnswer.the-variants as H

@@ -12,10 +12,10 @@ use Rattle.readers.specs.Outcome.{Outcome, value, refused}
 use Rattle.readers.specs.Reading.{Reading, unsignedAt, run, _>>=_}
 use Rattle.readers.specs.Walk.{each}
 use Rattle.readers.proofs.TwoFonts.{then-same, read-same, test-same, choice-same, answer-same, refuse-same}
-use Rattle.store.specs.Item.{Item, itemAt, itemSum, deltaIn, itemDelta}
-use Rattle.store.specs.Metric.{Measure, storeOf, deltaSetIndexAt, metricDelta, floatOf}
-use Rattle.store.specs.Mvar.{Header, headerAt, recordStart, indexIn, searchIn, find, tagDelta, mvarDelta}
-use Rattle.store.specs.Footprint.{Part, bytes, triple, uses, rowParts, itemFootprint, metricFootprint, recordPart, records, found, mvarParts, moved, mvarFootprint, EqualOver, EqualOn, HangsOn}
+use Rattle.opentype.specs.Item.{Item, itemAt, itemSum, deltaIn, itemDelta}
+use Rattle.opentype.specs.Metric.{Measure, storeOf, deltaSetIndexAt, metricDelta, floatOf}
+use Rattle.opentype.specs.Mvar.{Header, headerAt, recordStart, indexIn, searchIn, find, tagDelta, mvarDelta}
+use Rattle.opentype.specs.Footprint.{Part, bytes, triple, uses, rowParts, itemFootprint, metricFootprint, recordPart, records, found, mvarParts, moved, mvarFootprint, EqualOver, EqualOn, HangsOn}
 use Rattle.store.proofs.Triples.{triple-same}
 use Rattle.store.proofs.Search.{found-record}
 use Rattle.store.proofs.Moved.{over-moved, uses-moved}

@@ -21,9 +21,9 @@ use denote.Triple.Clauses.{ensured, lasts}
 use Rattle.readers.specs.Answers.{outcomeFixed}
 use Rattle.readers.specs.declared.FixedAnswer.{FixedAnswer}
 use Rattle.readers.proofs.One.{oneFixed}
-use Rattle.store.specs.Mvar.{Opened, openedDelta, openedFloat}
+use Rattle.opentype.specs.Mvar.{Opened, openedDelta, openedFloat}
 use Rattle.store.specs.MvarAnswers.{openedOf, liesAt, Opens}
-use Rattle.store.specs.MvarDeltas.{Deltas}
+use Rattle.opentype.specs.MvarDeltas.{Deltas}
 use Rattle.store.specs.MvarDeltasAnswers.{deltasOf, wantedBy}
 use Rattle.store.specs.declared.mvar.Mvar.{Mvar}
 use Rattle.store.specs.declared.mvar_deltas.MeasureDeltas.{MeasureDeltas}

@@ -11,7 +11,7 @@ use denote.Ref.{RefT, now}
 use Rattle.readers.specs.Outcome.{Outcome, value, refused, number, valueOr, onward, unless}
 use Rattle.readers.specs.Reading.{Reading, answer, refuse, tested, bytesAt, unsignedAt, bigEndian, run}
 use Rattle.readers.proofs.Reading.{run-bind}
-use Rattle.store.specs.Mvar.{Header, Opened, headerAt, tagDelta, mvarDelta, opened, noHeader, noMvar, openedDelta}
+use Rattle.opentype.specs.Mvar.{Header, Opened, headerAt, tagDelta, mvarDelta, opened, noHeader, noMvar, openedDelta}
 use Rattle.store.specs.MvarAnswers.{numbersOf, liesAt, Opens}
 use Rattle.store.specs.declared.mvar.Header.{Header as Numbers}
 use Rattle.store.specs.declared.mvar.Mvar.{Mvar}

@@ -6,8 +6,8 @@ use lib.IntN.{ℤ}
 use Rattle.readers.specs.Outcome.{Outcome, value, refused, onward}
 use Rattle.readers.specs.Reading.{Reading, answer, _>>=_, run}
 use Rattle.readers.proofs.Reading.{run-bind, run-nested}
-use Rattle.store.specs.Item.{deltaIn, itemDelta}
-use Rattle.store.specs.Metric.{Measure, storeOf, deltaSetIndexAt, metricDelta}
+use Rattle.opentype.specs.Item.{deltaIn, itemDelta}
+use Rattle.opentype.specs.Metric.{Measure, storeOf, deltaSetIndexAt, metricDelta}
 use Rattle.store.specs.MetricAnswers.{Place, placeOf, deltaFrom}
 
 module _ (font : List ℕ) (base : ℕ) (measure : Measure) (glyph : ℕ) (coords : List ℤ) where

@@ -9,8 +9,8 @@ use Rattle.readers.specs.declared.Refusal.{Refusal}
 use Rattle.readers.specs.declared.Half.{Half}
 use Rattle.readers.specs.declared.Half.the-variants as H
 use Rattle.readers.proofs.Reading.{run-nested, took16, stop16}
-use Rattle.store.specs.Metric.{DeltaSetIndex}
-use Rattle.store.specs.Mvar.{indexIn}
+use Rattle.opentype.specs.Metric.{DeltaSetIndex}
+use Rattle.opentype.specs.Mvar.{indexIn}
 
 abbrev both : ℕ → ℕ → Reading DeltaSetIndex
 both inner outer = answer (record { outer = outer; inner = inner })

@@ -13,9 +13,9 @@ use Rattle.readers.specs.Reading.{Reading, answer, refuse, tested, bytesAt, big
 use Rattle.readers.specs.Walk.{walk, turns, each}
 use Rattle.readers.proofs.Bytes.{SameBytes, same-bytes}
 use Rattle.readers.proofs.TwoFonts.{then-same}
-use Rattle.store.specs.Region.{coordinate, Triple, tripleAt, skipped, Tent, next, outside, tent, tentAt, under, axisTurn, regionScalar}
-use Rattle.store.specs.Item.{Regions, Item, regionStart, regionIndexAt, deltaAt, rowTurn, rowSum}
-use Rattle.store.specs.Footprint.{Part, bytes, triple, start, size, covers, notSkipped, usedBy, uses, partsOf, whole, tripleOf, triples, entryParts, rowParts, EqualOver, EqualOn}
+use Rattle.opentype.specs.Region.{coordinate, Triple, tripleAt, skipped, Tent, next, outside, tent, tentAt, under, axisTurn, regionScalar}
+use Rattle.opentype.specs.Item.{Regions, Item, regionStart, regionIndexAt, deltaAt, rowTurn, rowSum}
+use Rattle.opentype.specs.Footprint.{Part, bytes, triple, start, size, covers, notSkipped, usedBy, uses, partsOf, whole, tripleOf, triples, entryParts, rowParts, EqualOver, EqualOn}
 use Rattle.store.proofs.Triples.{triple-same, triple-whole}
 
 pub record Alike (f g : List ℕ) (c d : List ℤ) (parts : List Part) : Type 0 where

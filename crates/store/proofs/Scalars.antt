@@ -18,7 +18,7 @@ use Rattle.readers.specs.Reading.{Reading, answer, unsignedAt, signedAt, bigEnd
 use Rattle.readers.specs.Walk.{turns, walk}
 use Rattle.readers.proofs.Bytes as Bytes
 use Rattle.readers.proofs.Passed.{answer-is}
-use Rattle.store.specs.Region.{Triple, tripleAt, coordinate, same, skipped, difference, Tent, next, outside, tent, tentAt, under, axisTurn, regionScalar}
+use Rattle.opentype.specs.Region.{Triple, tripleAt, coordinate, same, skipped, difference, Tent, next, outside, tent, tentAt, under, axisTurn, regionScalar}
 use Rattle.store.proofs.Triples.{tripleIn, triple-was, neither, in-order, gap-small}
 
 abbrev InRange : ℤ → Type 0

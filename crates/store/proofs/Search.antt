@@ -13,7 +13,7 @@ use Rattle.readers.specs.Outcome.{Outcome, value, refused}
 use Rattle.readers.specs.Reading.{Reading, answer, _>>=_, bigEndian, unsignedAt, run}
 use Rattle.readers.proofs.Passed.{test-held, bytes-there, answer-is}
 use Rattle.readers.proofs.Reading.{declined}
-use Rattle.store.specs.Mvar.{recordStart, searchIn, find}
+use Rattle.opentype.specs.Mvar.{recordStart, searchIn, find}
 use Rattle.store.specs.MvarAnswers.{headerOf, foundOutcome}
 use Rattle.store.specs.declared.mvar.Found.{Found}
 use Rattle.store.specs.declared.mvar.Found.the-variants as F

@@ -18,7 +18,7 @@ use Rattle.readers.proofs.Bytes.{present, missing, SameBytes}
 use Rattle.readers.proofs.Passed.{bytes-there, cut-later}
 use Rattle.readers.proofs.Reading.{took-by, stop-by}
 use Rattle.readers.proofs.TwoFonts.{read-same, answer-same}
-use Rattle.store.specs.Region.{Triple, tripleAt, coordinate, skipped, Tent, tentAt, under, axisTurn}
+use Rattle.opentype.specs.Region.{Triple, tripleAt, coordinate, skipped, Tent, tentAt, under, axisTurn}
 use Rattle.store.specs.RegionAnswers.{axisOutcome}
 use Rattle.store.specs.declared.region.AxisAnswer.{AxisAnswer}
 

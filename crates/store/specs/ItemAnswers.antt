@@ -2,7 +2,7 @@
 use Prim.Native.Nat.{ℕ, _+_, _*_}
 use Rattle.readers.specs.Outcome.{Outcome, value}
 use Rattle.readers.specs.Answers.{refusal}
-use Rattle.store.specs.Item.{Regions, Row, Item}
+use Rattle.opentype.specs.Item.{Regions, Row, Item}
 use Rattle.store.specs.declared.item.RegionList.{RegionList}
 use Rattle.store.specs.declared.item.RegionListAnswer.{RegionListAnswer}
 use Rattle.store.specs.declared.item.RegionListAnswer.the-variants as L

@@ -5,8 +5,8 @@ use lib.IntN.{ℤ}
 use Rattle.readers.specs.Outcome.{Outcome, value, onward}
 use Rattle.readers.specs.Reading.{Reading, answer, _>>=_}
 use Rattle.readers.specs.Answers.{refusal}
-use Rattle.store.specs.Item.{itemDelta}
-use Rattle.store.specs.Metric as Metric
+use Rattle.opentype.specs.Item.{itemDelta}
+use Rattle.opentype.specs.Metric as Metric
 use Rattle.store.specs.declared.metric.Measure.{Measure}
 use Rattle.store.specs.declared.metric.Measure.the-variants as M
 use Rattle.store.specs.declared.metric.DeltaSetAnswer.{DeltaSetAnswer}

@@ -7,8 +7,8 @@ use lib.IntN.{ℤ}
 use lib.ListN.{length}
 use Rattle.readers.specs.Outcome.{Outcome, value, valueOr, number}
 use Rattle.readers.specs.Answers.{refusal}
-use Rattle.store.specs.Mvar as Mvar
-use Rattle.store.specs.Mvar.{Opened, opened, noMvar}
+use Rattle.opentype.specs.Mvar as Mvar
+use Rattle.opentype.specs.Mvar.{Opened, opened, noMvar}
 use Rattle.store.specs.declared.mvar.Header.{Header}
 use Rattle.store.specs.declared.mvar.HeaderAnswer.{HeaderAnswer}
 use Rattle.store.specs.declared.mvar.HeaderAnswer.the-variants as H

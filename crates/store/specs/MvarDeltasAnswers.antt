@@ -2,8 +2,8 @@
 use Prim.Native.Nat.{ℕ}
 use mathlib.Core.Bool.{Bool, true, false}
 use lib.Ieee.{Float}
-use Rattle.store.specs.MvarTags as T
-use Rattle.store.specs.MvarDeltas.{Deltas, deltasBy}
+use Rattle.opentype.specs.MvarTags as T
+use Rattle.opentype.specs.MvarDeltas.{Deltas, deltasBy}
 use Rattle.store.specs.declared.mvar_deltas.MeasureDeltas.{MeasureDeltas}
 use Rattle.store.specs.declared.mvar_deltas.Wanted.{Wanted}
 use Rattle.store.specs.declared.mvar_deltas.Wanted.the-variants as W

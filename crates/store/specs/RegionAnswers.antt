@@ -2,8 +2,8 @@
 use Rattle.numbers.specs.declared.F2Dot14.{F2Dot14}
 use Rattle.readers.specs.Outcome.{Outcome, value}
 use Rattle.readers.specs.Answers.{refusal}
-use Rattle.store.specs.Region as Region
-use Rattle.store.specs.Region.{Triple, next, outside}
+use Rattle.opentype.specs.Region as Region
+use Rattle.opentype.specs.Region.{Triple, next, outside}
 use Rattle.store.specs.declared.region.Tent.{Tent}
 use Rattle.store.specs.declared.region.Tent.the-variants as T
 use Rattle.store.specs.declared.region.AxisAnswer.{AxisAnswer}

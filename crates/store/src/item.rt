@@ -14,7 +14,7 @@ ghost use mathlib.Core.Path.{_≡_};
 ghost use Prim.Native.Nat.{_^_, _<_};
 ghost use Rattle.readers.specs.Reading.{run};
 ghost use Rattle.readers.specs.Answers.{outcome16, outcomeI16, outcomeFixed};
-ghost use Rattle.store.specs.Item.{regionList, rowAt, itemAt, regionIndexAt, deltaAt, itemSum, itemDelta};
+ghost use Rattle.opentype.specs.Item.{regionList, rowAt, itemAt, regionIndexAt, deltaAt, itemSum, itemDelta};
 ghost use Rattle.store.specs.ItemAnswers.{regionsOutcome, rowOutcome, itemOf, itemOutcome};
 
 // The region list: its store, and its offset from there (DECISIONS 80).

@@ -13,7 +13,7 @@ ghost use mathlib.Core.Path.{_≡_};
 ghost use Prim.Native.Nat.{_+_, _-_, _*_, _^_, _<_, _≤_, min};
 ghost use Rattle.readers.specs.Reading.{run, unsignedAt};
 ghost use Rattle.readers.specs.Answers.{outcome32, outcomeFixed};
-ghost use Rattle.store.specs.Metric.{advance, bearing, mapField, mapEntry, storeOf, deltaSetIndexAt, metricDelta, floatOf};
+ghost use Rattle.opentype.specs.Metric.{advance, bearing, mapField, mapEntry, storeOf, deltaSetIndexAt, metricDelta, floatOf};
 ghost use Rattle.store.specs.MetricAnswers.{measureOf, deltaSetOutcome, placeOf, placeOutcome, deltaFrom};
 
 // Which of a glyph's measures: advance width or height; left or top bearing.

@@ -18,7 +18,7 @@ ghost use lib.ListN.{drop};
 ghost use Rattle.readers.specs.Outcome.{valueOr, number as numberIn};
 ghost use Rattle.readers.specs.Reading.{run};
 ghost use Rattle.readers.specs.Answers.{outcomeFixed};
-ghost use Rattle.store.specs.Mvar.{headerAt, find, mvarDelta, noHeader, opened, noMvar, openedDelta, openedFloat};
+ghost use Rattle.opentype.specs.Mvar.{headerAt, find, mvarDelta, noHeader, opened, noMvar, openedDelta, openedFloat};
 ghost use Rattle.store.specs.MvarAnswers.{headerOf, numbersOf, headerOutcome, foundOutcome, openedAs, openedOf, liesAt};
 ghost use Rattle.store.specs.MvarDeltasAnswers.{deltasOf, wantedBy};
 

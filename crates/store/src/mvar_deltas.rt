@@ -3,9 +3,9 @@ use crate::mvar::tag_float;
 use crate::mvar_tags::*;
 ghost use mathlib.Core.Path.{_≡_};
 ghost use mathlib.Core.Bool.{false};
-ghost use Rattle.store.specs.Mvar.{openedFloat};
+ghost use Rattle.opentype.specs.Mvar.{openedFloat};
 ghost use Rattle.store.specs.MvarAnswers.{openedAs};
-ghost use Rattle.store.specs.MvarDeltas.{deltasBy};
+ghost use Rattle.opentype.specs.MvarDeltas.{deltasBy};
 ghost use Rattle.store.specs.MvarDeltasAnswers.{deltasOf, wantedBy, withOthers, withVertical};
 
 // Which deltas are asked for.

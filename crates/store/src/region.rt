@@ -10,7 +10,7 @@ ghost use mir.Syntax.{w16};
 ghost use mir.Val.{toZ};
 ghost use Rattle.readers.specs.Reading.{bigEndian, run};
 ghost use Rattle.readers.specs.Answers.{outcomeFixed};
-ghost use Rattle.store.specs.Region.{coordinate, same, skipped, difference, tent, tentAt, regionScalar};
+ghost use Rattle.opentype.specs.Region.{coordinate, same, skipped, difference, tent, tentAt, regionScalar};
 ghost use Rattle.store.specs.RegionAnswers.{triple, tentOf, axisOutcome};
 
 // What a triple makes of a scalar: the next one; or the coordinate is outside.

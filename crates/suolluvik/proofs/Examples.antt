@@ -7,9 +7,9 @@ use lib.IntN.{pos}
 use lib.Ieee.{Float}
 use Rattle.readers.specs.Outcome.{refused, number, valueOr}
 use Rattle.readers.specs.Lent.{fill}
-use Rattle.axes.specs.Fvar.{absent, named}
-use Rattle.store.specs.Metric.{advance, bearing, metricDelta}
-use Rattle.store.proofs.DeltaTable.{computing, s1-font}
+use Rattle.opentype.specs.Fvar.{absent, named}
+use Rattle.opentype.specs.Metric.{advance, bearing, metricDelta}
+use Rattle.opentype.proofs.DeltaTable.{computing, s1-font}
 use Rattle.metrics.specs.Scale.{float}
 use Rattle.metrics.specs.Measures.{materializedMetrics, linearScaled, scaledMetrics}
 use Rattle.metrics.proofs.MeasuresTable.{computing-measures, mvarFont, default}

@@ -3,8 +3,8 @@ use Prim.Native.Nat.{ℕ}
 use mathlib.Core.List.{List}
 use Rattle.readers.specs.Outcome.{Outcome}
 use Rattle.readers.specs.Reading.{run}
-use Rattle.axes.specs.Axis.{Axis}
-use Rattle.axes.specs.Fvar.{Instance, NameID, absent, named, headerOf, axis, axisByTag, instance}
+use Rattle.opentype.specs.Axis.{Axis}
+use Rattle.opentype.specs.Fvar.{Instance, NameID, absent, named, headerOf, axis, axisByTag, instance}
 
 -- Axis i; the first one with a tag; instance j.
 abbrev pub axisIn : List ℕ → ℕ → Outcome Axis

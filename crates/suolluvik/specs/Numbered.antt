@@ -3,7 +3,7 @@ use Prim.Native.Nat.{ℕ}
 use lib.IntN.{ℤ}
 use lib.Ieee.{Float}
 use Rattle.readers.specs.Outcome.{Outcome, number, valueOr}
-use Rattle.store.specs.Metric.{floatOf}
+use Rattle.opentype.specs.Metric.{floatOf}
 
 abbrev pub numbered : {A : Type 0} → A → Outcome A → ℕ × A
 numbered zero o = (number o, valueOr zero o)

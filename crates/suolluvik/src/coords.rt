@@ -5,8 +5,8 @@ use axes::variation::instance_coords;
 use axes::variation::normalized_coords;
 ghost use mathlib.Core.Path.{_≡_};
 ghost use lib.ListN.{length};
-ghost use Rattle.axes.specs.Fvar.{headerOf};
-ghost use Rattle.axes.specs.Variation.{settingsCount, settingsCoords, instanceCount, instanceCoords};
+ghost use Rattle.opentype.specs.Fvar.{headerOf};
+ghost use Rattle.opentype.specs.Variation.{settingsCount, settingsCoords, instanceCount, instanceCoords};
 ghost use Rattle.suolluvik.specs.Numbered.{numbered};
 
 // The coordinates that settings give, tags[s] with values[s]: at most 32; count is how many.

@@ -7,8 +7,8 @@ use store::mvar::mvar_delta;
 ghost use mathlib.Core.Path.{_≡_};
 ghost use lib.IntN.{pos};
 ghost use Rattle.readers.specs.Answers.{outcomeFixed};
-ghost use Rattle.store.specs.Metric.{advance, bearing, metricDelta};
-ghost use Rattle.store.specs.Mvar.{mvarDelta};
+ghost use Rattle.opentype.specs.Metric.{advance, bearing, metricDelta};
+ghost use Rattle.opentype.specs.Mvar.{mvarDelta};
 ghost use Rattle.suolluvik.specs.Numbered.{numbered, numberedFloat};
 
 // A delta as its raw number.

@@ -9,10 +9,10 @@ ghost use mathlib.Core.Path.{_≡_};
 ghost use lib.ListN.{length};
 ghost use Rattle.numbers.specs.Floats.{toFloat};
 ghost use Rattle.readers.specs.Outcome.{number, valueOr};
-ghost use Rattle.axes.specs.Axis.{noAxis};
+ghost use Rattle.opentype.specs.Axis.{noAxis};
 ghost use Rattle.axes.specs.FvarAnswers.{axisOutcome, nameOf};
-ghost use Rattle.axes.specs.Fvar.{headerOf};
-ghost use Rattle.axes.specs.Values.{floatCount, floatsIn};
+ghost use Rattle.opentype.specs.Fvar.{headerOf};
+ghost use Rattle.opentype.specs.Values.{floatCount, floatsIn};
 ghost use Rattle.suolluvik.specs.Numbered.{numbered};
 ghost use Rattle.suolluvik.specs.Fvar.{axisIn, taggedIn, instanceIn, noInstance, isNamed, nameOrZero};
 

@@ -3,7 +3,7 @@ use mathlib.Core.Path.{ap}
 use borrow.Author.Tests.{eq-eqb, ne-eqb}
 use borrow.Author.Needs.{needs}
 use Rattle.readers.specs.Outcome.{valueOr}
-use Rattle.axes.specs.Avar.{adjusted}
+use Rattle.opentype.specs.Avar.{adjusted}
 use Rattle.axes.proofs.Maps.{took-map, stop-map, map-there}
 use Rattle.axes.proofs.avar.adjust_axis.Statement.{statement}
 use Rattle.axes.proofs.avar.adjust_axis.Tie as tie

@@ -9,7 +9,7 @@ use Rattle.readers.proofs.Reading.{chosen, otherwise, answered, choices}
 use Rattle.readers.specs.Reading.{answer, run}
 use Rattle.readers.specs.Walk.{walk}
 use Rattle.readers.proofs.Walk.{run-turned, run-ended}
-use Rattle.axes.specs.Avar.{pairTurn, noPair, applied}
+use Rattle.opentype.specs.Avar.{pairTurn, noPair, applied}
 use Rattle.axes.specs.AxisAnswers.{pairOf}
 use Rattle.axes.proofs.Maps.{took-pair, pairs}
 use Rattle.axes.proofs.avar.apply.Statement.{statement}

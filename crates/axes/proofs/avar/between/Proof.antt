@@ -1,6 +1,6 @@
 -- `axes::avar::between` meets its contract. Assumes nothing.
 use borrow.Author.Needs.{needs}
-use Rattle.axes.specs.Avar.{between}
+use Rattle.opentype.specs.Avar.{between}
 use Rattle.axes.proofs.avar.between.Statement.{statement}
 use Rattle.axes.proofs.avar.between.Tie as tie
 

@@ -2,7 +2,7 @@
 use native.Mathlib.Omega.{arith}
 use borrow.Author.Needs.{needs}
 use Rattle.readers.proofs.Reading.{took16, answered, unsigned}
-use Rattle.axes.specs.Avar.{mapAt}
+use Rattle.opentype.specs.Avar.{mapAt}
 use Rattle.readers.proofs.Bytes.{present, missing}
 use Rattle.axes.proofs.avar.map_at.Statement.{statement}
 use Rattle.axes.proofs.avar.map_at.Tie as tie

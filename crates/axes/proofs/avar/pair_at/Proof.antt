@@ -1,7 +1,7 @@
 -- `axes::avar::pair_at` meets its contract. Assumes nothing.
 use borrow.Author.Needs.{needs}
 use Rattle.readers.proofs.Reading.{numbers, ends}
-use Rattle.axes.specs.Avar.{pairAt}
+use Rattle.opentype.specs.Avar.{pairAt}
 use Rattle.axes.proofs.avar.pair_at.Statement.{statement}
 use Rattle.axes.proofs.avar.pair_at.Tie as tie
 

@@ -7,7 +7,7 @@ use Rattle.readers.specs.Reading.{run}
 use Rattle.readers.specs.Walk.{walk}
 use Rattle.readers.proofs.Reading.{unsigned, tests, comparisons}
 use Rattle.readers.proofs.Walk.{run-turned, run-ended}
-use Rattle.axes.specs.Avar.{mapTurn, mapAt, segmentMap}
+use Rattle.opentype.specs.Avar.{mapTurn, mapAt, segmentMap}
 use Rattle.axes.proofs.avar.segment_map.Statement.{statement}
 use Rattle.axes.proofs.avar.segment_map.Tie as tie
 

@@ -4,7 +4,7 @@ use mathlib.Core.Bool.{cond}
 use borrow.Author.Needs.{needs}
 use Rattle.numbers.specs.Numbers.{negated}
 use Rattle.readers.specs.Outcome.{value}
-use Rattle.axes.specs.Axis.{fraction}
+use Rattle.opentype.specs.Axis.{fraction}
 use Rattle.axes.proofs.Quotient.{part-fraction}
 use Rattle.axes.proofs.axis.fraction.Statement.{statement}
 use Rattle.axes.proofs.axis.fraction.Tie as tie

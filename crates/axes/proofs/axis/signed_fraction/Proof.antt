@@ -5,7 +5,7 @@ use lib.IntN.{ℤ}
 use borrow.Author.Needs.{needs}
 use Rattle.numbers.specs.Numbers.{negated, unlike}
 use Rattle.readers.specs.Outcome.{Outcome, value, unless}
-use Rattle.axes.specs.Axis.{fraction}
+use Rattle.opentype.specs.Axis.{fraction}
 use Rattle.axes.proofs.Quotient.{least-over, neg-test}
 use Rattle.axes.proofs.axis.signed_fraction.Statement.{statement}
 use Rattle.axes.proofs.axis.signed_fraction.Tie as tie

@@ -4,7 +4,7 @@ use native.Mathlib.Omega.{arith}
 use mir.Syntax.{w32}
 use mir.Val.{toZ}
 use borrow.Author.Needs.{needs}
-use Rattle.axes.specs.Fvar.{fieldAt}
+use Rattle.opentype.specs.Fvar.{fieldAt}
 use Rattle.axes.proofs.Axes.{read-there, axis-whole, axis-cut}
 use Rattle.axes.proofs.fvar.axis_at.Statement.{statement}
 use Rattle.axes.proofs.fvar.axis_at.Tie as tie

@@ -1,6 +1,6 @@
 -- `axes::fvar::field_at` meets its contract. Assumes nothing.
 use borrow.Author.Needs.{needs}
-use Rattle.axes.specs.Fvar.{fieldAt}
+use Rattle.opentype.specs.Fvar.{fieldAt}
 use Rattle.axes.proofs.fvar.field_at.Statement.{statement}
 use Rattle.axes.proofs.fvar.field_at.Tie as tie
 

@@ -1,6 +1,6 @@
 -- `axes::fvar::instance_value` meets its contract. Assumes nothing.
 use borrow.Author.Needs.{needs}
-use Rattle.axes.specs.Fvar.{instanceValue}
+use Rattle.opentype.specs.Fvar.{instanceValue}
 use Rattle.axes.proofs.fvar.instance_value.Statement.{statement}
 use Rattle.axes.proofs.fvar.instance_value.Tie as tie
 

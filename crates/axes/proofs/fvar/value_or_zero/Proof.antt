@@ -3,8 +3,8 @@ use mathlib.Core.Path.{ap, _∙_}
 use borrow.Author.Needs.{needs}
 use mir.Syntax.{w32}
 use mir.Val.{toZ}
-use Rattle.axes.specs.Fvar.{instanceValue}
-use Rattle.axes.specs.Values.{valueIn}
+use Rattle.opentype.specs.Fvar.{instanceValue}
+use Rattle.opentype.specs.Values.{valueIn}
 use Rattle.axes.proofs.Axes.{signed-or-zero}
 use Rattle.axes.proofs.fvar.value_or_zero.Statement.{statement}
 use Rattle.axes.proofs.fvar.value_or_zero.Tie as tie

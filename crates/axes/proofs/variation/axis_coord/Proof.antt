@@ -10,7 +10,7 @@ use Rattle.readers.specs.Outcome.{value}
 use Rattle.readers.specs.Walk.{walk}
 use Rattle.readers.proofs.Walk.{turned, ended}
 use Rattle.axes.specs.AxisAnswers.{axisOf}
-use Rattle.axes.specs.Variation.{settingTurn, axisCoord}
+use Rattle.opentype.specs.Variation.{settingTurn, axisCoord}
 use Rattle.axes.proofs.Coords.{onward-coord, halt-coord}
 use Rattle.axes.proofs.variation.axis_coord.Statement.{statement}
 use Rattle.axes.proofs.variation.axis_coord.Tie as tie

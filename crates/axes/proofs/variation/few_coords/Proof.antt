@@ -16,7 +16,7 @@ use Rattle.readers.specs.Answers.{outcomeF2Dot14}
 use Rattle.readers.proofs.Walk.{turned, ended}
 use Rattle.readers.proofs.Lent.{fill-none, fill-more, fill-length, wrote, left}
 use Rattle.axes.specs.FvarAnswers.{header}
-use Rattle.axes.specs.Variation.{coordTurn, passed, coordsIn, valueCoord}
+use Rattle.opentype.specs.Variation.{coordTurn, passed, coordsIn, valueCoord}
 use Rattle.axes.proofs.Coords.{onward-coord, halt-coord, coord-is, copied}
 use Rattle.axes.proofs.variation.few_coords.Statement.{statement}
 use Rattle.axes.proofs.variation.few_coords.Tie as tie

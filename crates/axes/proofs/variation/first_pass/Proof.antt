@@ -8,7 +8,7 @@ use Rattle.readers.specs.Reading.{Done, done}
 use Rattle.readers.specs.Walk.{walk}
 use Rattle.readers.proofs.Walk.{turned, ended}
 use Rattle.axes.specs.FvarAnswers.{header}
-use Rattle.axes.specs.Variation.{coordTurn, passed, valueCoord}
+use Rattle.opentype.specs.Variation.{coordTurn, passed, valueCoord}
 use Rattle.axes.proofs.Coords.{coords, halt-coord}
 use Rattle.axes.proofs.variation.first_pass.Statement.{statement}
 use Rattle.axes.proofs.variation.first_pass.Tie as tie

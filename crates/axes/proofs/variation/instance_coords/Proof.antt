@@ -4,7 +4,7 @@ use mathlib.Core.Path.{refl, sym, ap, _∙_}
 use native.Mathlib.Omega.{arith}
 use Rattle.readers.specs.Answers.{outcome16}
 use Rattle.readers.proofs.Lent.{wrote, left}
-use Rattle.axes.specs.Variation.{coordsIn, instanceCount, instanceCoords}
+use Rattle.opentype.specs.Variation.{coordsIn, instanceCount, instanceCoords}
 use Rattle.axes.proofs.Coords.{all-passed, counted-short, counted-all}
 use Rattle.axes.proofs.Instances.{values-there, values-part, values-refused}
 use Rattle.axes.proofs.variation.instance_coords.Statement.{statement}

@@ -1,6 +1,6 @@
 -- `axes::variation::no_axis` meets its contract. Assumes nothing.
 use mathlib.Core.Path.{refl}
-use Rattle.axes.specs.Axis.{noAxis}
+use Rattle.opentype.specs.Axis.{noAxis}
 use Rattle.axes.proofs.variation.no_axis.Statement.{statement}
 use Rattle.axes.proofs.variation.no_axis.Tie as tie
 

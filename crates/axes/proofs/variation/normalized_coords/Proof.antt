@@ -17,7 +17,7 @@ use Rattle.readers.proofs.Outcome.{unless-true, unless-false}
 use Rattle.readers.proofs.Walk.{turned, ended}
 use Rattle.readers.proofs.Lent.{fill-none, fill-more, fill-length, wrote, left}
 use Rattle.axes.specs.FvarAnswers.{header}
-use Rattle.axes.specs.Variation.{coordTurn, coordsIn, settingCoord, settingsCount, settingsCoords}
+use Rattle.opentype.specs.Variation.{coordTurn, coordsIn, settingCoord, settingsCount, settingsCoords}
 use Rattle.axes.proofs.Coords.{onward-coord, halt-coord, coord-is, passed-as, counted-short, counted-all, copied}
 use Rattle.axes.proofs.variation.normalized_coords.Statement.{statement}
 use Rattle.axes.proofs.variation.normalized_coords.Tie as tie

@@ -1,6 +1,6 @@
 -- `axes::variation::setting_coord` meets its contract. Assumes nothing.
 use borrow.Author.Needs.{needs}
-use Rattle.axes.specs.Variation.{settingCoord}
+use Rattle.opentype.specs.Variation.{settingCoord}
 use Rattle.axes.proofs.variation.setting_coord.Statement.{statement}
 use Rattle.axes.proofs.variation.setting_coord.Tie as tie
 

@@ -1,6 +1,6 @@
 -- `axes::variation::value_coord` meets its contract. Assumes nothing.
 use borrow.Author.Needs.{needs}
-use Rattle.axes.specs.Variation.{valueCoord}
+use Rattle.opentype.specs.Variation.{valueCoord}
 use Rattle.axes.proofs.variation.value_coord.Statement.{statement}
 use Rattle.axes.proofs.variation.value_coord.Tie as tie
 

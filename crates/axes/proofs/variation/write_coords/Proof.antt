@@ -11,7 +11,7 @@ use Rattle.readers.specs.Outcome.{valueOr}
 use Rattle.readers.specs.Lent.{fill}
 use Rattle.readers.proofs.Lent.{fill-none, fill-more, fill-end, fill-length}
 use Rattle.axes.specs.FvarAnswers.{header}
-use Rattle.axes.specs.Variation.{valueCoord}
+use Rattle.opentype.specs.Variation.{valueCoord}
 use Rattle.axes.proofs.variation.write_coords.Statement.{statement}
 use Rattle.axes.proofs.variation.write_coords.Tie as tie
 

@@ -40,7 +40,7 @@ use denote.Triple.Walked.{says, Stays, stay-none, stay-none-slice, gave-ref, wal
 use denote.Exit.{yes}
 use denote.Triple.Clauses.{ensured, lasts}
 use Rattle.readers.specs.Outcome.{Outcome, valueOr, number}
-use Rattle.store.specs.Mvar.{Opened, opened, noMvar, openedFloat}
+use Rattle.opentype.specs.Mvar.{Opened, opened, noMvar, openedFloat}
 use Rattle.store.specs.MvarAnswers.{openedOf, Opens}
 use Rattle.store.specs.MvarDeltasAnswers.{deltasOf, wantedBy}
 use Rattle.store.specs.declared.mvar.Mvar.{Mvar}

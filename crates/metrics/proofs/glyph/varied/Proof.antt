@@ -1,7 +1,7 @@
 -- `metrics::glyph::varied` meets its contract. Assumes nothing.
 use mathlib.Core.Path.{ap, _∙_}
 use borrow.Author.Needs.{needs}
-use Rattle.store.specs.Metric.{floatOf}
+use Rattle.opentype.specs.Metric.{floatOf}
 use Rattle.metrics.specs.Scale.{adjusted}
 use Rattle.metrics.proofs.glyph.varied.Statement.{statement}
 use Rattle.metrics.proofs.glyph.varied.Tie as tie

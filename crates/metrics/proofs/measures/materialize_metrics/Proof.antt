@@ -2,8 +2,8 @@
 use mathlib.Core.Path.{ap, _∙_}
 use borrow.Author.Needs.{needs}
 use Rattle.readers.specs.Outcome.{valueOr}
-use Rattle.store.specs.Mvar.{opened, noMvar, openedFloat}
-use Rattle.store.specs.MvarDeltas.{Deltas}
+use Rattle.opentype.specs.Mvar.{opened, noMvar, openedFloat}
+use Rattle.opentype.specs.MvarDeltas.{Deltas}
 use Rattle.store.specs.MvarDeltasAnswers.{wantsOthers, wantsVertical}
 use Rattle.metrics.specs.Measures.{shifted}
 use Rattle.metrics.specs.Structs.{metricsOf, tagged}

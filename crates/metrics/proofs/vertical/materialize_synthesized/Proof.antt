@@ -1,7 +1,7 @@
 -- `metrics::vertical::materialize_synthesized` meets its contract. Assumes nothing.
 use mathlib.Core.Path.{ap, _∙_}
 use borrow.Author.Needs.{needs}
-use Rattle.store.specs.MvarDeltas.{Deltas}
+use Rattle.opentype.specs.MvarDeltas.{Deltas}
 use Rattle.metrics.specs.Scale.{plus}
 use Rattle.metrics.specs.Vertical.{synthesized, shiftedSynthesized}
 use Rattle.metrics.proofs.Varying.{no-mvar, no-coordinates, not-opened, shifts}

@@ -1,7 +1,7 @@
 -- `store::item::delta_at` meets its contract. Assumes nothing.
 use borrow.Author.Needs.{needs}
 use borrow.Author.Tests.{lt-ltb, le-ltb}
-use Rattle.store.specs.Item.{deltaAt}
+use Rattle.opentype.specs.Item.{deltaAt}
 use Rattle.store.proofs.item.delta_at.Statement.{statement}
 use Rattle.store.proofs.item.delta_at.Tie as tie
 

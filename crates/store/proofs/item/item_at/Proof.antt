@@ -6,7 +6,7 @@ use borrow.Author.Tests.{eq-eqb, ne-eqb, lt-ltb, le-ltb}
 use Rattle.readers.specs.Outcome.{Outcome}
 use Rattle.readers.specs.Reading.{answer, _>>=_, run}
 use Rattle.readers.proofs.Reading.{took-by, stop-by, took16, stop16, passed, failed, answered}
-use Rattle.store.specs.Item.{Item, regionList, rowAt, itemAt}
+use Rattle.opentype.specs.Item.{Item, regionList, rowAt, itemAt}
 use Rattle.store.specs.ItemAnswers.{regionsOutcome, rowOutcome}
 use Rattle.store.proofs.item.item_at.Statement.{statement}
 use Rattle.store.proofs.item.item_at.Tie as tie

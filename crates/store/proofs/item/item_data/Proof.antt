@@ -3,7 +3,7 @@ use native.Mathlib.Omega.{arith}
 use borrow.Author.Needs.{needs}
 use borrow.Author.Tests.{le-leb, lt-leb}
 use Rattle.readers.proofs.Reading.{unsigned, took16, took32, passed, failed, answered}
-use Rattle.store.specs.Item.{rowAt}
+use Rattle.opentype.specs.Item.{rowAt}
 use Rattle.store.proofs.item.item_data.Statement.{statement}
 use Rattle.store.proofs.item.item_data.Tie as tie
 

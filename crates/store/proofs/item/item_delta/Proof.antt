@@ -2,7 +2,7 @@
 use mathlib.Core.Path.{refl}
 use borrow.Author.Needs.{needs}
 use Rattle.readers.proofs.Reading.{took-by, stop-by}
-use Rattle.store.specs.Item.{deltaIn, itemDelta}
+use Rattle.opentype.specs.Item.{deltaIn, itemDelta}
 use Rattle.store.specs.ItemAnswers.{itemOutcome}
 use Rattle.store.proofs.item.item_delta.Statement.{statement}
 use Rattle.store.proofs.item.item_delta.Tie as tie

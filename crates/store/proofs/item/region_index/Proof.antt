@@ -3,7 +3,7 @@ use native.Mathlib.Omega.{arith}
 use borrow.Author.Needs.{needs}
 use borrow.Author.Tests.{lt-ltb, le-ltb}
 use Rattle.readers.proofs.Reading.{took16, stop16, passed, failed, answered}
-use Rattle.store.specs.Item.{regionIndexAt}
+use Rattle.opentype.specs.Item.{regionIndexAt}
 use Rattle.store.proofs.item.region_index.Statement.{statement}
 use Rattle.store.proofs.item.region_index.Tie as tie
 

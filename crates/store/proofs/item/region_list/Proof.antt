@@ -1,7 +1,7 @@
 -- `store::item::region_list` meets its contract. Assumes nothing.
 use borrow.Author.Needs.{needs}
 use Rattle.readers.proofs.Reading.{unsigned, ends}
-use Rattle.store.specs.Item.{regionList}
+use Rattle.opentype.specs.Item.{regionList}
 use Rattle.store.proofs.item.region_list.Statement.{statement}
 use Rattle.store.proofs.item.region_list.Tie as tie
 

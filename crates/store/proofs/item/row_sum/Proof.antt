@@ -13,8 +13,8 @@ use Rattle.readers.specs.Reading.{Reading, answer, run}
 use Rattle.readers.specs.Walk.{walk}
 use Rattle.readers.proofs.Reading.{took16, stop16, tookFixed, stopFixed, tookI16, stopI16, answered}
 use Rattle.readers.proofs.Walk.{run-turned, run-ended}
-use Rattle.store.specs.Region.{regionScalar}
-use Rattle.store.specs.Item.{Item, regionStart, rowTurn, rowSum, itemSum}
+use Rattle.opentype.specs.Region.{regionScalar}
+use Rattle.opentype.specs.Item.{Item, regionStart, rowTurn, rowSum, itemSum}
 use Rattle.store.proofs.item.row_sum.Statement.{statement}
 use Rattle.store.proofs.item.row_sum.Tie as tie
 

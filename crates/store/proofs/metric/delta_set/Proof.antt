@@ -2,7 +2,7 @@
 use borrow.Author.Needs.{needs}
 use borrow.Author.Tests.{eq-eqb, ne-eqb}
 use Rattle.readers.proofs.Reading.{took32, stop32, answered, declined}
-use Rattle.store.specs.Metric.{deltaSetIndexAt}
+use Rattle.opentype.specs.Metric.{deltaSetIndexAt}
 use Rattle.store.proofs.metric.delta_set.Statement.{statement}
 use Rattle.store.proofs.metric.delta_set.Tie as tie
 

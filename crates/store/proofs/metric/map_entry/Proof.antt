@@ -4,7 +4,7 @@ use native.Mathlib.Omega.{arith}
 use borrow.Author.Needs.{needs}
 use borrow.Author.Tests.{ne-eqb}
 use Rattle.readers.proofs.Reading.{took16, took32, stop32, passed, answered, unsigned, tests, comparisons}
-use Rattle.store.specs.Metric.{mapEntry}
+use Rattle.opentype.specs.Metric.{mapEntry}
 use Rattle.store.proofs.Entries.{shifted-positive, low-bits, low-bits-small}
 use Rattle.store.proofs.metric.map_entry.Statement.{statement}
 use Rattle.store.proofs.metric.map_entry.Tie as tie

@@ -2,7 +2,7 @@
 use borrow.Author.Needs.{needs}
 use borrow.Author.Tests.{lt-ltb, le-ltb, ne-eqb}
 use Rattle.readers.proofs.Reading.{took32, passed, failed, answered, unsigned, tests, comparisons}
-use Rattle.store.specs.Metric.{storeOf}
+use Rattle.opentype.specs.Metric.{storeOf}
 use Rattle.store.proofs.metric.store_of.Statement.{statement}
 use Rattle.store.proofs.metric.store_of.Tie as tie
 

@@ -6,7 +6,7 @@ use borrow.Author.Needs.{needs}
 use borrow.Author.Tests.{lt-ltb, le-ltb}
 use Rattle.readers.specs.Reading.{run}
 use Rattle.readers.proofs.Reading.{took32, stop32, answered, chosen, otherwise}
-use Rattle.store.specs.Mvar.{searchIn, find as searched}
+use Rattle.opentype.specs.Mvar.{searchIn, find as searched}
 use Rattle.store.specs.MvarAnswers.{headerOf}
 use Rattle.store.proofs.Search.{product-fits, start-fits, search-turned, search-missed}
 use Rattle.store.proofs.mvar.find.Statement.{statement}

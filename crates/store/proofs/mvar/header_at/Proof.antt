@@ -1,6 +1,6 @@
 -- `store::mvar::header_at` meets its contract. Assumes nothing.
 use Rattle.readers.proofs.Reading.{unsigned, ends, tests}
-use Rattle.store.specs.Mvar.{headerAt}
+use Rattle.opentype.specs.Mvar.{headerAt}
 use Rattle.store.proofs.Openings.{openings}
 use borrow.Author.Needs.{needs}
 use Rattle.store.proofs.mvar.header_at.Statement.{statement}

@@ -1,7 +1,7 @@
 -- `store::mvar::mvar_delta` meets its contract. Assumes nothing.
 use mathlib.Core.Path.{refl}
 use Rattle.readers.proofs.Reading.{took-by, stop-by}
-use Rattle.store.specs.Mvar.{headerAt, mvarDelta, openedDelta}
+use Rattle.opentype.specs.Mvar.{headerAt, mvarDelta, openedDelta}
 use Rattle.store.specs.MvarAnswers.{headerOutcome}
 use borrow.Author.Needs.{needs}
 use Rattle.store.proofs.mvar.mvar_delta.Statement.{statement}

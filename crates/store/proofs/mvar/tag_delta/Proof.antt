@@ -3,8 +3,8 @@ use Prim.Native.Nat.{_+_, _*_, _≤_}
 use mathlib.Core.Path.{refl}
 use native.Mathlib.Omega.{arith}
 use Rattle.readers.proofs.Reading.{took-by, stop-by}
-use Rattle.store.specs.Item.{itemDelta}
-use Rattle.store.specs.Mvar.{find, tagDelta, openedDelta}
+use Rattle.opentype.specs.Item.{itemDelta}
+use Rattle.opentype.specs.Mvar.{find, tagDelta, openedDelta}
 use Rattle.store.specs.MvarAnswers.{foundOutcome}
 use Rattle.store.proofs.Search.{found-small}
 use Rattle.store.proofs.Records.{inner-stops, outer-stops, both-took}

@@ -1,6 +1,6 @@
 -- `store::mvar_deltas::tag_deltas` meets its contract. Assumes nothing.
 use mathlib.Core.Path.{ap, sym, _∙_}
-use Rattle.store.specs.Mvar.{openedFloat}
+use Rattle.opentype.specs.Mvar.{openedFloat}
 use Rattle.store.specs.MvarAnswers.{openedAs}
 use Rattle.store.specs.MvarDeltasAnswers.{withOthers, withVertical, wantedBy}
 use borrow.Author.Needs.{needs}

@@ -1,6 +1,6 @@
 -- `store::region::axis_at` meets its contract. Assumes nothing.
 use Rattle.readers.proofs.Reading.{answered}
-use Rattle.store.specs.Region.{tentAt}
+use Rattle.opentype.specs.Region.{tentAt}
 use Rattle.store.proofs.Triples.{triple-there, triple-cut}
 use borrow.Author.Needs.{needs}
 use Rattle.store.proofs.region.axis_at.Statement.{statement}

@@ -9,7 +9,7 @@ use Rattle.readers.specs.Reading.{answer, run}
 use Rattle.readers.specs.Walk.{walk}
 use Rattle.readers.proofs.Reading.{answered}
 use Rattle.readers.proofs.Walk.{run-turned, run-ended}
-use Rattle.store.specs.Region.{axisTurn, regionScalar}
+use Rattle.opentype.specs.Region.{axisTurn, regionScalar}
 use Rattle.store.proofs.Triples.{axis-took, axis-stop}
 use Rattle.store.proofs.region.region_scalar.Statement.{statement}
 use Rattle.store.proofs.region.region_scalar.Tie as tie

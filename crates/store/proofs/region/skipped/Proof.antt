@@ -1,7 +1,7 @@
 -- `store::region::skipped` meets its contract. Assumes nothing.
 use mathlib.Core.Path.{sym, _∙_}
 use borrow.Author.Needs.{needs}
-use Rattle.store.specs.Region.{skipped}
+use Rattle.opentype.specs.Region.{skipped}
 use Rattle.store.proofs.region.skipped.Statement.{statement}
 use Rattle.store.proofs.region.skipped.Tie as tie
 

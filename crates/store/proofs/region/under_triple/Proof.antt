@@ -1,7 +1,7 @@
 -- `store::region::under_triple` meets its contract. Assumes nothing.
 use borrow.Author.Needs.{needs}
 use mathlib.Core.Path.{ap, sym, _∙_}
-use Rattle.store.specs.Region.{tent, next}
+use Rattle.opentype.specs.Region.{tent, next}
 use Rattle.store.proofs.region.under_triple.Statement.{statement}
 use Rattle.store.proofs.region.under_triple.Tie as tie
 

@@ -3,7 +3,7 @@ use borrow.Author.Needs.{needs}
 use mathlib.Core.Path.{refl, _∙_}
 use mir.Syntax.{w32}
 use mir.ValLaws.{toZ-ofZ}
-use Rattle.axes.specs.Axis.{noAxis}
+use Rattle.opentype.specs.Axis.{noAxis}
 use Rattle.suolluvik.proofs.fvar.axis_fields.Statement.{statement}
 use Rattle.suolluvik.proofs.fvar.axis_fields.Tie as tie
 

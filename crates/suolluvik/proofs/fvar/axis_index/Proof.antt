@@ -1,7 +1,7 @@
 -- `suolluvik::fvar::axis_index` meets its contract. Assumes nothing.
 use borrow.Author.Needs.{needs}
 use mathlib.Core.Path.{refl}
-use Rattle.axes.specs.Axis.{noAxis}
+use Rattle.opentype.specs.Axis.{noAxis}
 use Rattle.suolluvik.proofs.fvar.axis_index.Statement.{statement}
 use Rattle.suolluvik.proofs.fvar.axis_index.Tie as tie
 

@@ -2,7 +2,7 @@
 use borrow.Author.Needs.{needs}
 use mathlib.Core.Path.{ap, _∙_}
 use Rattle.readers.specs.Outcome.{Outcome, number, valueOr}
-use Rattle.axes.specs.Axis.{Axis, noAxis}
+use Rattle.opentype.specs.Axis.{Axis, noAxis}
 use Rattle.suolluvik.proofs.fvar.suolluvik_axis_by_tag.Statement.{statement}
 use Rattle.suolluvik.proofs.fvar.suolluvik_axis_by_tag.Tie as tie
 

@@ -1,7 +1,7 @@
 -- `suolluvik::fvar::suolluvik_axis_count` meets its contract. Assumes nothing.
 use borrow.Author.Needs.{needs}
 use mathlib.Core.Path.{ap}
-use Rattle.axes.specs.Fvar.{Header}
+use Rattle.opentype.specs.Fvar.{Header}
 use Rattle.suolluvik.proofs.fvar.suolluvik_axis_count.Statement.{statement}
 use Rattle.suolluvik.proofs.fvar.suolluvik_axis_count.Tie as tie
 

@@ -2,7 +2,7 @@
 use borrow.Author.Needs.{needs}
 use mathlib.Core.Path.{ap, sym, _∙_}
 use Rattle.readers.specs.Outcome.{Outcome, number, valueOr}
-use Rattle.axes.specs.Fvar.{Instance}
+use Rattle.opentype.specs.Fvar.{Instance}
 use Rattle.axes.specs.FvarAnswers.{instanceOutcome}
 use Rattle.suolluvik.specs.Fvar.{noInstance, isNamed, nameOrZero}
 use Rattle.suolluvik.proofs.fvar.suolluvik_instance.Statement.{statement}

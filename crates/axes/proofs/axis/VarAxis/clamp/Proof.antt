@@ -1,7 +1,7 @@
 -- `axes::axis::VarAxis::clamp` meets its contract. Assumes nothing.
 use mathlib.Core.Path.{sym, _∙_}
 use borrow.Author.Needs.{needs}
-use Rattle.axes.specs.Axis.{clamped}
+use Rattle.opentype.specs.Axis.{clamped}
 use Rattle.axes.proofs.axis.VarAxis.clamp.Statement.{statement}
 use Rattle.axes.proofs.axis.VarAxis.clamp.Tie as tie
 

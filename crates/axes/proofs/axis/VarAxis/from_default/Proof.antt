@@ -1,7 +1,7 @@
 -- `axes::axis::VarAxis::from_default` meets its contract. Assumes nothing.
 use mathlib.Core.Path.{sym, _∙_}
 use borrow.Author.Needs.{needs}
-use Rattle.axes.specs.Axis.{fromDefault}
+use Rattle.opentype.specs.Axis.{fromDefault}
 use Rattle.axes.proofs.axis.VarAxis.from_default.Statement.{statement}
 use Rattle.axes.proofs.axis.VarAxis.from_default.Tie as tie
 

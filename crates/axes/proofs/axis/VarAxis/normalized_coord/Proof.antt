@@ -3,7 +3,7 @@ use mathlib.Core.Path.{refl}
 use borrow.Author.Needs.{needs}
 use Rattle.readers.specs.Answers.{outcomeFixed}
 use Rattle.readers.proofs.Outcome.{onward-by, halt-by}
-use Rattle.axes.specs.Axis.{normalizedCoord}
+use Rattle.opentype.specs.Axis.{normalizedCoord}
 use Rattle.axes.proofs.axis.VarAxis.normalized_coord.Statement.{statement}
 use Rattle.axes.proofs.axis.VarAxis.normalized_coord.Tie as tie
 

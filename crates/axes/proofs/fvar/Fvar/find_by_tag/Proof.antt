@@ -8,7 +8,7 @@ use Rattle.readers.specs.Reading.{done}
 use Rattle.readers.specs.Walk.{walk}
 use Rattle.readers.specs.Outcome.{refused}
 use Rattle.readers.proofs.Walk.{turned, ended}
-use Rattle.axes.specs.Fvar.{tagTurn, axisByTag}
+use Rattle.opentype.specs.Fvar.{tagTurn, axisByTag}
 use Rattle.axes.specs.FvarAnswers.{header, axisOutcome}
 use Rattle.axes.proofs.Axes.{readable, tag-hit, tag-miss, other-misses, unreadable-misses}
 use Rattle.axes.proofs.fvar.Fvar.find_by_tag.Statement.{statement}

@@ -2,7 +2,7 @@
 use borrow.Author.Needs.{needs}
 use borrow.Author.Tests.{lt-ltb}
 use Rattle.readers.proofs.Reading.{passed, tests, comparisons}
-use Rattle.axes.specs.Fvar.{axis}
+use Rattle.opentype.specs.Fvar.{axis}
 use Rattle.axes.proofs.fvar.Fvar.get_axis.Statement.{statement}
 use Rattle.axes.proofs.fvar.Fvar.get_axis.Tie as tie
 

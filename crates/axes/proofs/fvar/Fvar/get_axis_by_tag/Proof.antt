@@ -9,7 +9,7 @@ use Rattle.readers.specs.Walk.{walk}
 use Rattle.readers.specs.Answers.{outcome32}
 use Rattle.readers.specs.Outcome.{refused}
 use Rattle.readers.proofs.Walk.{turned, ended}
-use Rattle.axes.specs.Fvar.{tagTurn, axisByTag}
+use Rattle.opentype.specs.Fvar.{tagTurn, axisByTag}
 use Rattle.axes.specs.FvarAnswers.{header, axisOutcome}
 use Rattle.axes.proofs.Axes.{readable, tag-hit, tag-miss, tag-other, tag-gone, search-ends, axis-tag}
 use Rattle.axes.proofs.fvar.Fvar.get_axis_by_tag.Statement.{statement}

@@ -1,6 +1,6 @@
 -- `axes::fvar::Fvar::get_instance` meets its contract. Assumes nothing.
 use borrow.Author.Needs.{needs}
-use Rattle.axes.specs.Fvar.{instance}
+use Rattle.opentype.specs.Fvar.{instance}
 use Rattle.axes.proofs.fvar.Fvar.get_instance.Statement.{statement}
 use Rattle.axes.proofs.fvar.Fvar.get_instance.Tie as tie
 

@@ -7,7 +7,7 @@ use lib.ListN.{length}
 use Rattle.numbers.specs.Floats.{toFloat}
 use Rattle.readers.specs.Lent.{fill}
 use Rattle.readers.proofs.Lent.{fill-none, fill-more, fill-length, fill-end, wrote, left}
-use Rattle.axes.specs.Values.{valueIn, floatsIn}
+use Rattle.opentype.specs.Values.{valueIn, floatsIn}
 use Rattle.axes.proofs.Instances.{values-there, values-part, floats-counted, floats-short, floats-refused}
 use Rattle.axes.proofs.fvar.Fvar.instance_floats.Statement.{statement}
 use Rattle.axes.proofs.fvar.Fvar.instance_floats.Tie as tie

@@ -4,7 +4,7 @@ use borrow.Author.Needs.{needs}
 use borrow.Author.Tests.{lt-ltb, lt-leb, le-leb}
 use Rattle.readers.proofs.Bytes.{present, missing}
 use Rattle.readers.proofs.Reading.{took16, stop16, passed, failed, answered, tests, comparisons}
-use Rattle.axes.specs.Fvar.{instanceRecord}
+use Rattle.opentype.specs.Fvar.{instanceRecord}
 use Rattle.axes.proofs.fvar.Fvar.instance_record.Statement.{statement}
 use Rattle.axes.proofs.fvar.Fvar.instance_record.Tie as tie
 

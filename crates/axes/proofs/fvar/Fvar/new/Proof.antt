@@ -1,6 +1,6 @@
 -- `axes::fvar::Fvar::new` meets its contract. Assumes nothing.
 use borrow.Author.Needs.{needs}
-use Rattle.axes.specs.Fvar.{headerOf}
+use Rattle.opentype.specs.Fvar.{headerOf}
 use Rattle.axes.proofs.fvar.Fvar.new.Statement.{statement}
 use Rattle.axes.proofs.fvar.Fvar.new.Tie as tie
 

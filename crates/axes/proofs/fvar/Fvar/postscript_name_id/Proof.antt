@@ -6,7 +6,7 @@ use borrow.Author.Needs.{needs}
 use borrow.Author.Tests.{eq-eqb, ne-eqb}
 use Rattle.readers.specs.Outcome.{valueOr}
 use Rattle.readers.proofs.Reading.{took16, stop16, answered}
-use Rattle.axes.specs.Fvar.{absent, postScriptNameID}
+use Rattle.opentype.specs.Fvar.{absent, postScriptNameID}
 use Rattle.axes.proofs.fvar.Fvar.postscript_name_id.Statement.{statement}
 use Rattle.axes.proofs.fvar.Fvar.postscript_name_id.Tie as tie
 

@@ -9,7 +9,7 @@ use denote.Builtin.{u32, f32}
 use denote.Floats.{float-lawful}
 use denote.Triple.Spec.{tripleOf}
 use denote.Triple.Table.{entered, cited}
-use Rattle.store.specs.Mvar.{openedFloat}
+use Rattle.opentype.specs.Mvar.{openedFloat}
 use Rattle.store.proofs.Apart.{apart-meets}
 use Rattle.store.proofs.mvar.tag_float as work
 use Rattle.store.proofs.mvar.tag_float.Symbol as work-def

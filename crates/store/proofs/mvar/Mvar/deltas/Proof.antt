@@ -5,7 +5,7 @@ use denote.Enum.Laws as EL
 use denote.Struct.Laws as LL
 use denote.Triple.Spec.{tripleOf}
 use denote.Triple.Table.{entered, cited}
-use Rattle.store.specs.Mvar.{openedFloat}
+use Rattle.opentype.specs.Mvar.{openedFloat}
 use Rattle.store.specs.MvarDeltasAnswers.{deltasOf, wantedBy}
 use Rattle.store.proofs.Apart.{apart-meets}
 use Rattle.store.proofs.mvar_deltas.Wanted as X

@@ -46,8 +46,8 @@ use denote.Exit.{yes}
 use denote.Triple.Clauses.{ensured, lasts}
 use Rattle.readers.specs.Outcome.{Outcome, valueOr, number}
 use Rattle.readers.specs.Reading as Reading
-use Rattle.store.specs.Mvar as Mvar
-use Rattle.store.specs.Mvar.{headerAt, noHeader}
+use Rattle.opentype.specs.Mvar as Mvar
+use Rattle.opentype.specs.Mvar.{headerAt, noHeader}
 use Rattle.store.specs.MvarAnswers.{numbersOf, liesAt, Opens}
 use Rattle.store.specs.declared.mvar.Header.{Header}
 use Rattle.store.proofs.Opened.{made, calls-open}

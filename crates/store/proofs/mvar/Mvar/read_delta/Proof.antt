@@ -11,7 +11,7 @@ use denote.Triple.Table.{entered, cited}
 use Rattle.readers.specs.Answers.{outcomeFixed}
 use Rattle.readers.proofs.FixedAnswer as S
 use Rattle.readers.proofs.FixedAnswer.Laws as S′
-use Rattle.store.specs.Mvar.{openedDelta}
+use Rattle.opentype.specs.Mvar.{openedDelta}
 use Rattle.store.proofs.Apart.{apart-meets}
 use Rattle.store.proofs.mvar.tag_delta as work
 use Rattle.store.proofs.mvar.tag_delta.Symbol as work-def

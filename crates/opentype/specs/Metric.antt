@@ -9,7 +9,7 @@ use lib.Ieee.{Float}
 use Rattle.numbers.specs.Floats.{toFloat}
 use Rattle.readers.specs.Outcome.{Outcome, valueOr}
 use Rattle.readers.specs.Reading.{Reading, answer, refuse, _>>=_, _>>_, check, unsignedAt, run}
-use Rattle.store.specs.Item.{deltaIn}
+use Rattle.opentype.specs.Item.{deltaIn}
 
 -- Which of a glyph's measures: advance width or height; left or top bearing.
 pub data Measure : Type 0 where

@@ -4,8 +4,8 @@ use mathlib.Core.Path.{_≡_, refl}
 use mathlib.Core.List.{List, [], _∷_, _++_}
 use lib.IntN.{ℤ, pos, negsuc}
 use Rattle.readers.specs.Outcome.{value, refused}
-use Rattle.store.specs.Mvar.{headerAt, indexIn, searchIn, find, tagDelta, mvarDelta}
-use Rattle.store.proofs.DeltaTable.{computing}
+use Rattle.opentype.specs.Mvar.{headerAt, indexIn, searchIn, find, tagDelta, mvarDelta}
+use Rattle.opentype.proofs.DeltaTable.{computing}
 
 -- What an example unfolds beside what those of the store do.
 unfoldable pub opening : Unit {0}

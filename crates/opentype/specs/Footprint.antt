@@ -9,10 +9,10 @@ use lib.IntN.{ℤ}
 use Rattle.readers.specs.Outcome.{Outcome, value, refused}
 use Rattle.readers.specs.Reading.{Reading, answer, refuse, tested, bytesAt, bigEndian, run}
 use Rattle.readers.specs.Walk.{each}
-use Rattle.store.specs.Region.{coordinate, Triple, tripleAt, skipped}
-use Rattle.store.specs.Item.{Regions, regionStart, Item, itemAt, regionIndexAt, deltaAt}
-use Rattle.store.specs.Metric.{Measure, storeOf, deltaSetIndexAt}
-use Rattle.store.specs.Mvar.{Header, headerAt, recordStart, indexIn, find}
+use Rattle.opentype.specs.Region.{coordinate, Triple, tripleAt, skipped}
+use Rattle.opentype.specs.Item.{Regions, regionStart, Item, itemAt, regionIndexAt, deltaAt}
+use Rattle.opentype.specs.Metric.{Measure, storeOf, deltaSetIndexAt}
+use Rattle.opentype.specs.Mvar.{Header, headerAt, recordStart, indexIn, find}
 
 infixl 20 _>>=_
 -- A part: so many bytes from a start on; or the triple of an axis, six bytes.

@@ -11,9 +11,9 @@ use Rattle.readers.specs.Outcome.{Outcome, value, refused, onward, unless, valu
 use Rattle.readers.specs.Reading.{Done, done, run}
 use Rattle.readers.specs.Walk.{Turn, walk}
 use Rattle.readers.specs.Lent.{fill, written}
-use Rattle.axes.specs.Axis.{Axis, noAxis, normalizedCoord}
-use Rattle.axes.specs.Fvar.{Header, axis, instanceValues}
-use Rattle.axes.specs.Values.{valueIn}
+use Rattle.opentype.specs.Axis.{Axis, noAxis, normalizedCoord}
+use Rattle.opentype.specs.Fvar.{Header, axis, instanceValues}
+use Rattle.opentype.specs.Values.{valueIn}
 
 -- n coordinates in turn: the first refusal met, else their count.
 unfoldable pub coordTurn : (ℕ → Outcome ℤ) → Turn Done (Outcome ℕ)

@@ -10,10 +10,10 @@ use Rattle.readers.specs.Outcome.{value, refused}
 use Rattle.readers.specs.Reading.{unsignedAt, signedAt, bigEndian, run}
 use Rattle.readers.specs.Walk.{turns, walk}
 use Rattle.readers.specs.Lent.{fill}
-use Rattle.axes.specs.Avar.{mapTurn, mapAt, segmentMap, pairAt, between, pairTurn, noPair, applied, adjusted}
-use Rattle.axes.specs.Fvar.{Header, fieldAt, headerOf, axisRecord, axis}
-use Rattle.axes.specs.Variation.{coordTurn, passed, counted, coordsIn, settingTurn, axisCoord, settingCoord, settingsCount, settingsCoords}
-use Rattle.axes.specs.Axis.{clamped, fraction, fromDefault, normalizedCoord}
+use Rattle.opentype.specs.Avar.{mapTurn, mapAt, segmentMap, pairAt, between, pairTurn, noPair, applied, adjusted}
+use Rattle.opentype.specs.Fvar.{Header, fieldAt, headerOf, axisRecord, axis}
+use Rattle.opentype.specs.Variation.{coordTurn, passed, counted, coordsIn, settingTurn, axisCoord, settingCoord, settingsCount, settingsCoords}
+use Rattle.opentype.specs.Axis.{clamped, fraction, fromDefault, normalizedCoord}
 
 -- N1 as a coordinate list: document 01's example fvar, its axis set to 300 and then to 650, and a lent list of three marks. A later setting wins; elements
 -- beyond the count stay.

@@ -8,10 +8,10 @@ use lib.ListN.{length, take, drop}
 use lib.IntN.{pos, negsuc}
 use Rattle.readers.specs.Outcome.{value, refused}
 use Rattle.readers.specs.Walk.{each}
-use Rattle.store.specs.Metric.{advance, bearing, metricDelta}
-use Rattle.store.specs.Footprint.{Part, bytes, triple, covers, uses, partsOf, tripleOf, triples, entryParts, rowParts, itemFootprint, metricFootprint, recordPart, records, mvarParts, mvarFootprint}
-use Rattle.store.proofs.DeltaTable.{hvar, s1-font, s3-font, h1-font}
-use Rattle.store.proofs.MvarTable.{opening, sorted, hasc, xhgt}
+use Rattle.opentype.specs.Metric.{advance, bearing, metricDelta}
+use Rattle.opentype.specs.Footprint.{Part, bytes, triple, covers, uses, partsOf, tripleOf, triples, entryParts, rowParts, itemFootprint, metricFootprint, recordPart, records, mvarParts, mvarFootprint}
+use Rattle.opentype.proofs.DeltaTable.{hvar, s1-font, s3-font, h1-font}
+use Rattle.opentype.proofs.MvarTable.{opening, sorted, hasc, xhgt}
 
 infix 70 _to_
 -- What an example unfolds beside what those of deltas do.

@@ -7,7 +7,7 @@ use lib.IntN.{ℤ, pos, negsuc, natAbs}
 use lib.Signed.{ltZ}
 use Rattle.numbers.specs.Numbers.{minus, negated, lesser, greater, toF2dot14, unlike, quotient, over}
 use Rattle.readers.specs.Outcome.{Outcome, value, onward, unless}
-use Rattle.axes.specs.Avar.{adjusted}
+use Rattle.opentype.specs.Avar.{adjusted}
 
 -- A VariationAxisRecord, with its number.
 pub record Axis : Type 0 where

@@ -7,10 +7,10 @@ use Rattle.numbers.specs.Numbers.{wrap32, minus, times, over}
 use Rattle.readers.specs.Outcome.{value, refused}
 use Rattle.readers.specs.Reading.{unsignedAt, signedAt, bigEndian, run}
 use Rattle.readers.specs.Walk.{turns, walk}
-use Rattle.store.specs.Region.{Triple, tripleAt, skipped, next, tent, tentAt, axisTurn, regionScalar}
-use Rattle.store.specs.Item.{regionList, rowAt, itemAt, regionIndexAt, deltaAt, rowTurn, rowSum, itemSum, deltaIn}
-use Rattle.store.specs.Metric.{advance, bearing, deltaSetIndexOf, mapEntry, storeOf, deltaSetIndexAt, metricDelta}
-use Rattle.store.specs.Footprint.{bytes, partsOf}
+use Rattle.opentype.specs.Region.{Triple, tripleAt, skipped, next, tent, tentAt, axisTurn, regionScalar}
+use Rattle.opentype.specs.Item.{regionList, rowAt, itemAt, regionIndexAt, deltaAt, rowTurn, rowSum, itemSum, deltaIn}
+use Rattle.opentype.specs.Metric.{advance, bearing, deltaSetIndexOf, mapEntry, storeOf, deltaSetIndexAt, metricDelta}
+use Rattle.opentype.specs.Footprint.{bytes, partsOf}
 
 -- What every example unfolds.
 unfoldable pub computing : Unit {0}

@@ -9,7 +9,7 @@ use mir.Syntax.{w32}
 use Rattle.readers.specs.Outcome.{Outcome, value, refused, onward, valueOr}
 use Rattle.readers.specs.Reading.{Reading, Done, done, answer, _>>=_, _>>_, check, there, unsignedAt, signedAt, run}
 use Rattle.readers.specs.Walk.{Turn, walk}
-use Rattle.axes.specs.Axis.{Axis}
+use Rattle.opentype.specs.Axis.{Axis}
 
 -- The fields of fvar's header that are used.
 pub record Header : Type 0 where

@@ -10,7 +10,7 @@ use Rattle.numbers.specs.Numbers.{wrap32}
 use Rattle.readers.specs.Outcome.{Outcome}
 use Rattle.readers.specs.Reading.{Reading, answer, _>>=_, _>>_, check, unsignedAt, signedAt, run}
 use Rattle.readers.specs.Walk.{Turn, walk}
-use Rattle.store.specs.Region.{regionScalar}
+use Rattle.opentype.specs.Region.{regionScalar}
 
 -- VariationRegionList: where its regions start, and its axisCount and regionCount.
 pub record Regions : Type 0 where

@@ -9,8 +9,8 @@ use lib.IntN.{ℤ}
 use lib.Ieee.{Float}
 use Rattle.readers.specs.Outcome.{Outcome, value, onward}
 use Rattle.readers.specs.Reading.{Reading, answer, refuse, _>>=_, _>>_, check, unsignedAt, run}
-use Rattle.store.specs.Item.{deltaIn}
-use Rattle.store.specs.Metric.{DeltaSetIndex, floatOf}
+use Rattle.opentype.specs.Item.{deltaIn}
+use Rattle.opentype.specs.Metric.{DeltaSetIndex, floatOf}
 
 -- The numbers of the header.
 pub record Header : Type 0 where

@@ -3,7 +3,7 @@ use Prim.Native.Nat.{ℕ}
 use mathlib.Core.Bool.{Bool, false, cond}
 use lib.IntN.{pos}
 use lib.Ieee.{Float, fin}
-use Rattle.store.specs.MvarTags as T
+use Rattle.opentype.specs.MvarTags as T
 
 -- A delta for each of the eleven tags.
 pub record Deltas : Type 0 where

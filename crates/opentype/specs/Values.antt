@@ -9,7 +9,7 @@ use Rattle.numbers.specs.Floats.{toFloat}
 use Rattle.readers.specs.Outcome.{Outcome, value, onward, unless, valueOr}
 use Rattle.readers.specs.Reading.{run}
 use Rattle.readers.specs.Lent.{fill, written}
-use Rattle.axes.specs.Fvar.{Header, instanceValues, instanceValue}
+use Rattle.opentype.specs.Fvar.{Header, instanceValues, instanceValue}
 
 -- Value i of an instance's part; 0 past its end.
 unfoldable pub valueIn : List ℕ → ℕ → ℤ

@@ -1,0 +1,5 @@
+-- Small tables, computed by the definitions.
+pub mod AxisTable
+pub mod DeltaTable
+pub mod MvarTable
+pub mod FootprintTable

@@ -1,0 +1,13 @@
+-- fvar, avar and coordinate lists; the item variation store, HVAR and VVAR, MVAR; the footprint of a delta, over which demand 3 is stated.
+pub mod Axis
+pub mod Avar
+pub mod Fvar
+pub mod Values
+pub mod Variation
+pub mod Region
+pub mod Item
+pub mod Metric
+pub mod Mvar
+pub mod MvarTags
+pub mod MvarDeltas
+pub mod Footprint

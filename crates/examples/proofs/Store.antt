@@ -31,7 +31,7 @@ unfolding deltas
 fraction-kept = refl
 
 -- H1's font with a map for bearings at its end, of one entry: row 2. An advance goes by its own map: row 0.
-abbrev two-maps : List ℕ
+abbrev pub two-maps : List ℕ
 two-maps = mapped 0x33 ++ (0 ∷ 7 ∷ 0 ∷ 1 ∷ 2 ∷ [])
 
 pub each-by-its-own-map :

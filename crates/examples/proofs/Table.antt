@@ -41,7 +41,7 @@ abbrev a1 : ℤ → ℤ
 a1 v = toF2dot14 (adjusted a1-font 2 1 (fromF2dot14 v))
 
 -- The delta of a glyph's advance, by a font's HVAR, which stands at 4.
-abbrev delta : List ℕ → ℕ → List ℤ → Outcome ℤ
+abbrev pub delta : List ℕ → ℕ → List ℤ → Outcome ℤ
 delta font glyph coords = metricDelta font 4 advance glyph coords
 
 -- The table: a line for each of document 01's examples, under its name and in its words.

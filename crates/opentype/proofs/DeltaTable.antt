@@ -2,6 +2,7 @@
 use mathlib.Core.Path.{_≡_, refl}
 use mathlib.Core.List.{List, [], _∷_, _++_}
 use Prim.Native.Nat.{ℕ}
+use lib.ListN.{take}
 use lib.IntN.{pos, negsuc}
 use Rattle.numbers.specs.Numbers.{wrap32, minus, times, over}
 use Rattle.readers.specs.Outcome.{value, refused}
@@ -101,9 +102,9 @@ pub sum-before-map : metricDelta (0 ∷ 0 ∷ 0 ∷ 0 ∷ 0 ∷ 1 ∷ 0 ∷ 0 �
 unfolding computing
 sum-before-map = refl
 
--- The reads of S1's store, at 20, in their order: count, region list with its two counts, subtable with its two counts; then the region index, the triple's three numbers, the entry.
+-- The reads of S1's store, at 20, in their order: count, region list with its two counts, subtable with its two counts and the item count; then the region index, the triple's three numbers, the entry.
 pub S1-order : partsOf s1-font (deltaIn (pos 8192 ∷ []) 20 0 0) (λ delta. [])
-    ≡ bytes 26 2 ∷ bytes 22 4 ∷ bytes 32 2 ∷ bytes 34 2 ∷ bytes 28 4 ∷ bytes 46 2 ∷ bytes 44 2
+    ≡ bytes 26 2 ∷ bytes 22 4 ∷ bytes 32 2 ∷ bytes 34 2 ∷ bytes 28 4 ∷ bytes 46 2 ∷ bytes 44 2 ∷ bytes 42 2
     ∷ bytes 48 2 ∷ bytes 36 2 ∷ bytes 38 2 ∷ bytes 40 2 ∷ bytes 50 1
     ∷ []
 unfolding computing s1-font partsOf
@@ -123,3 +124,27 @@ second-row = refl
 pub cut-triple : (run (0 ∷ 0 ∷ 0x40 ∷ 0 ∷ 0x40 ∷ 0 ∷ []) (regionScalar (negsuc 0 ∷ []) 2 0) ≡ value (pos 0)) × (run (0 ∷ 0 ∷ 0x40 ∷ 0 ∷ 0x40 ∷ 0 ∷ []) (regionScalar (pos 0 ∷ []) 2 0) ≡ refused 2)
 unfolding computing
 cut-triple = (refl, refl)
+
+-- ---- W-201: a row outside the item count
+
+-- A store of one row, 100, and a byte behind it, 5; the region's triple is skipped. The word count is left open.
+abbrev pub one-row : ℕ → List ℕ
+one-row words =
+    hvar
+    ++ (0 ∷ 1 ∷ 0 ∷ 0 ∷ 0 ∷ 0x0c ∷ 0 ∷ 1 ∷ 0 ∷ 0 ∷ 0 ∷ 0x16
+    ∷ 0 ∷ 1 ∷ 0 ∷ 1 ∷ 0 ∷ 0 ∷ 0 ∷ 0 ∷ 0 ∷ 0
+    ∷ 0 ∷ 1 ∷ 0 ∷ words ∷ 0 ∷ 1 ∷ 0 ∷ 0 ∷ 0x64 ∷ 5
+    ∷ [])
+
+-- Glyph 0 has the row; glyph 1, at the count, has none. A word count that is too large is refused before the item count is looked at.
+pub past-the-count :
+    (metricDelta (one-row 0) 4 advance 0 [] ≡ value (pos 6553600))
+    × (metricDelta (one-row 0) 4 advance 1 [] ≡ refused 3)
+    × (metricDelta (one-row 2) 4 advance 1 [] ≡ refused 5)
+unfolding computing
+past-the-count = (refl, refl, refl)
+
+-- The font ends behind the subtable's three counts: the region index, which is cut, is looked at for a row that is there alone.
+pub count-before-indexes : (metricDelta (take 48 (one-row 0)) 4 advance 0 [] ≡ refused 2) × (metricDelta (take 48 (one-row 0)) 4 advance 1 [] ≡ refused 3)
+unfolding computing
+count-before-indexes = (refl, refl)

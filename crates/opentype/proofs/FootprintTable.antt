@@ -10,7 +10,7 @@ use Rattle.readers.specs.Outcome.{value, refused}
 use Rattle.readers.specs.Walk.{each}
 use Rattle.opentype.specs.Metric.{advance, bearing, metricDelta}
 use Rattle.opentype.specs.Footprint.{Part, bytes, triple, covers, uses, partsOf, tripleOf, triples, entryParts, rowParts, itemFootprint, metricFootprint, recordPart, records, mvarParts, mvarFootprint}
-use Rattle.opentype.proofs.DeltaTable.{hvar, s1-font, s3-font, h1-font}
+use Rattle.opentype.proofs.DeltaTable.{hvar, s1-font, s3-font, h1-font, one-row}
 use Rattle.opentype.proofs.MvarTable.{opening, sorted, hasc, xhgt}
 
 infix 70 _to_
@@ -43,13 +43,13 @@ _to_ first last = counting first (suc last - first)
 -- S1's advance: the reads of HVAR, of the store's header, of the region list and of the subtable; the region index, the triple, the entry.
 pub S1-parts : metricFootprint s1-font 4 advance 0
     ≡ bytes 8 4 ∷ bytes 12 4
-    ∷ bytes 26 2 ∷ bytes 22 4 ∷ bytes 32 2 ∷ bytes 34 2 ∷ bytes 28 4 ∷ bytes 46 2 ∷ bytes 44 2
+    ∷ bytes 26 2 ∷ bytes 22 4 ∷ bytes 32 2 ∷ bytes 34 2 ∷ bytes 28 4 ∷ bytes 46 2 ∷ bytes 44 2 ∷ bytes 42 2
     ∷ bytes 48 2 ∷ triple 36 0 ∷ bytes 50 1
     ∷ []
 unfolding footing s1-font
 S1-parts = refl
 
-pub S1-covers : covered s1-font (metricFootprint s1-font 4 advance 0) ≡ 8 to 15 ++ 22 to 41 ++ 44 to 50
+pub S1-covers : covered s1-font (metricFootprint s1-font 4 advance 0) ≡ 8 to 15 ++ 22 to 50
 unfolding footing s1-font
 S1-covers = ap (covered s1-font) S1-parts
 
@@ -76,7 +76,7 @@ S3-axes axis = go (eqb 0 axis)
     go false = refl
 
 -- H1's glyph 3 uses the map's entry 2, and so the third row.
-pub H1-covers : covered h1-font (metricFootprint h1-font 4 advance 3) ≡ 8 to 15 ++ 20 to 23 ++ 26 ∷ 30 to 43 ++ 46 to 51 ++ 54 ∷ []
+pub H1-covers : covered h1-font (metricFootprint h1-font 4 advance 3) ≡ 8 to 15 ++ 20 to 23 ++ 26 ∷ 30 to 51 ++ 54 ∷ []
 unfolding footing h1-font
 H1-covers = refl
 
@@ -104,7 +104,7 @@ cut-triple-answers = (refl, refl)
 
 pub cut-triple-parts : metricFootprint cut-font 4 advance 0
     ≡ bytes 8 4 ∷ bytes 12 4
-    ∷ bytes 26 2 ∷ bytes 22 4 ∷ bytes 44 2 ∷ bytes 46 2 ∷ bytes 28 4 ∷ bytes 36 2 ∷ bytes 34 2
+    ∷ bytes 26 2 ∷ bytes 22 4 ∷ bytes 44 2 ∷ bytes 46 2 ∷ bytes 28 4 ∷ bytes 36 2 ∷ bytes 34 2 ∷ bytes 32 2
     ∷ bytes 38 2 ∷ triple 60 0 ∷ bytes 42 1
     ∷ bytes 40 2 ∷ triple 48 0 ∷ triple 54 1 ∷ bytes 43 1
     ∷ []
@@ -133,9 +133,15 @@ no-store-parts = refl
 abbrev invalid-index : List ℕ
 invalid-index = take 49 s1-font ++ 1 ∷ drop 50 s1-font
 
-pub invalid-index-covers : covered invalid-index (metricFootprint invalid-index 4 advance 0) ≡ 8 to 15 ++ 22 to 35 ++ 44 to 49
+pub invalid-index-covers : covered invalid-index (metricFootprint invalid-index 4 advance 0) ≡ 8 to 15 ++ 22 to 35 ++ 42 to 49
 unfolding footing s1-font
 invalid-index-covers = refl
+
+-- W-201's one row, whose subtable is at 42, asked for a second: the item count is the last part, and the region index, at 48, is none. Where the word count is too large the item count is no part either.
+pub past-the-count-covers : (covered (one-row 0) (metricFootprint (one-row 0) 4 advance 1) ≡ 8 to 15 ++ 22 to 35 ++ 42 to 47)
+    × (covered (one-row 2) (metricFootprint (one-row 2) 4 advance 1) ≡ 8 to 15 ++ 22 to 35 ++ 44 to 47)
+unfolding footing
+past-the-count-covers = (refl, refl)
 
 -- A font that ends behind two region indices, both 0, of a region with no axes, or in its row.
 abbrev cut-row : List ℕ → List ℕ
@@ -146,8 +152,8 @@ cut-row row =
     ∷ 0 ∷ 1 ∷ 0 ∷ 0 ∷ 0 ∷ 2 ∷ 0 ∷ 0 ∷ 0 ∷ 0 ∷ row)
 
 -- Where the first entry, at 46, is cut, the second index, at 44, is no part, though it could be read.
-pub cut-row-covers : (covered (cut-row []) (metricFootprint (cut-row []) 4 advance 0) ≡ 8 to 15 ++ 22 to 35 ++ 38 to 43)
-    × (covered (cut-row (7 ∷ [])) (metricFootprint (cut-row (7 ∷ [])) 4 advance 0) ≡ 8 to 15 ++ 22 to 35 ++ 38 to 46)
+pub cut-row-covers : (covered (cut-row []) (metricFootprint (cut-row []) 4 advance 0) ≡ 8 to 15 ++ 22 to 43)
+    × (covered (cut-row (7 ∷ [])) (metricFootprint (cut-row (7 ∷ [])) 4 advance 0) ≡ 8 to 15 ++ 22 to 46)
 unfolding footing
 cut-row-covers = (refl, refl)
 
@@ -195,7 +201,7 @@ cut-indexes-answers = (refl, refl)
 -- The first index, at 42, is a part by itself.
 pub cut-indexes-parts : metricFootprint (cut-indexes 1) 4 advance 0
     ≡ bytes 8 4 ∷ bytes 12 4
-    ∷ bytes 26 2 ∷ bytes 22 4 ∷ bytes 32 2 ∷ bytes 34 2 ∷ bytes 28 4 ∷ bytes 40 2 ∷ bytes 38 2
+    ∷ bytes 26 2 ∷ bytes 22 4 ∷ bytes 32 2 ∷ bytes 34 2 ∷ bytes 28 4 ∷ bytes 40 2 ∷ bytes 38 2 ∷ bytes 36 2
     ∷ bytes 42 2
     ∷ []
 unfolding footing
@@ -207,13 +213,13 @@ cut-indexes-parts = refl
 pub mvar-parts : mvarFootprint sorted 2 hasc
     ≡ bytes 8 2 ∷ bytes 10 2 ∷ bytes 12 2
     ∷ bytes 14 8 ∷ bytes 22 8
-    ∷ bytes 36 2 ∷ bytes 32 4 ∷ bytes 46 2 ∷ bytes 48 2 ∷ bytes 38 4 ∷ bytes 60 2 ∷ bytes 58 2
+    ∷ bytes 36 2 ∷ bytes 32 4 ∷ bytes 46 2 ∷ bytes 48 2 ∷ bytes 38 4 ∷ bytes 60 2 ∷ bytes 58 2 ∷ bytes 56 2
     ∷ bytes 62 2 ∷ triple 50 0 ∷ bytes 65 1
     ∷ []
 unfolding footing
 mvar-parts = refl
 
-pub mvar-covers : covered sorted (mvarFootprint sorted 2 hasc) ≡ 8 to 29 ++ 32 to 41 ++ 46 to 55 ++ 58 to 63 ++ 65 ∷ []
+pub mvar-covers : covered sorted (mvarFootprint sorted 2 hasc) ≡ 8 to 29 ++ 32 to 41 ++ 46 to 63 ++ 65 ∷ []
 unfolding footing
 mvar-covers = refl
 

@@ -37,7 +37,8 @@ pub record Row : Type 0 where
   pub wordDeltaCount : ℕ
   pub start : ℕ
 
--- A row is regionIndexCount + wordDeltaCount bytes; the rows follow the indexes. The item count is not looked at (D).
+-- A row is regionIndexCount + wordDeltaCount bytes; the rows follow the indexes. W-201: "Read the item count (first two bytes of the subtable) after the word-count check, and treat a row outside it
+-- as an index that is too large": refusal 3, "after 5 and before any region index".
 unfoldable pub rowAt : ℕ → ℕ → ℕ → Reading Row
 rowAt store outer inner = do
   itemVariationDataOffset ← unsignedAt 4 (store + 8 + 4 * outer)
@@ -45,6 +46,8 @@ rowAt store outer inner = do
   regionIndexCount ← unsignedAt 2 (subtable + 4)
   wordDeltaCount ← unsignedAt 2 (subtable + 2)
   check (leb wordDeltaCount regionIndexCount) 5
+  itemCount ← unsignedAt 2 subtable
+  check (ltb inner itemCount) 3
   answer (record {
     regionIndexes = subtable + 6;
     regionIndexCount = regionIndexCount;

@@ -79,7 +79,7 @@ fn region_list(font: &[u8], store: u32) -> RegionListAnswer
     })
 }
 
-// The subtable of a row. The item count is not looked at, so that every inner index has a row here.
+// The subtable of a row that it has.
 fn item_data(font: &[u8], store: u32, outer: u32, inner: u16) -> ItemDataAnswer
     ensures { λ r. ⌜ rowOutcome inner r ≡ run (now (font .entry)) (rowAt store outer inner) ⌝ }
 {
@@ -99,6 +99,13 @@ fn item_data(font: &[u8], store: u32, outer: u32, inner: u16) -> ItemDataAnswer
     };
     if word_count > region_index_count {
         return ItemDataAnswer::Refused(Refusal::Arithmetic);
+    }
+    let item_count = match u16_at(font, subtable) {
+        Half::Value(x) => x,
+        Half::Refused(n) => return ItemDataAnswer::Refused(n),
+    };
+    if inner >= item_count {
+        return ItemDataAnswer::Refused(Refusal::Index);
     }
     ItemDataAnswer::Value(ItemData {
         store,

@@ -1,8 +1,8 @@
 -- `store::item::item_data` meets its contract. Assumes nothing.
 use native.Mathlib.Omega.{arith}
 use borrow.Author.Needs.{needs}
-use borrow.Author.Tests.{le-leb, lt-leb}
-use Rattle.readers.proofs.Reading.{unsigned, took16, took32, passed, failed, answered}
+use borrow.Author.Tests.{le-leb, le-ltb}
+use Rattle.readers.proofs.Reading.{took16, took32, passed, failed, unsigned, tests, ends, comparisons}
 use Rattle.opentype.specs.Item.{rowAt}
 use Rattle.store.proofs.item.item_data.Statement.{statement}
 use Rattle.store.proofs.item.item_data.Tie as tie
@@ -69,25 +69,38 @@ returns-3 c = search unsigned depth 8
 
 returns-4 : tie.Need-returns-4
 unfolding rowAt
-returns-4 c =
-    let words = c .before in
-    let count = words .before .before .before .before in
-    let offset = count .before .before .before .before in
-    took32 _ _ _ _ (offset .before .before .before .u32-at .ensures) (offset .before .x .given .1)
-    (took16 _ _ _ _ (count .before .before .before .u16-at .ensures) (count .before .x2 .given .1)
-    (took16 _ _ _ _ (words .before .before .before .u16-at2 .ensures) (words .before .x3 .given .1)
-    (failed _ _ _ _ (lt-leb (words .before .x3 .given .0 .0) (count .before .x2 .given .0 .0) (omega arith)))))
+returns-4 c = search (unsigned, tests, ends, comparisons) depth 14
+
+u16-at-requires-3 : tie.Need-u16-at-requires-3
+u16-at-requires-3 c κs = search needs
+
+enum-known-x-4 : tie.Need-enum-known-x-4
+enum-known-x-4 c = search needs
+
+enum-known-n-4 : tie.Need-enum-known-n-4
+enum-known-n-4 c = search needs
 
 returns-5 : tie.Need-returns-5
 unfolding rowAt
-returns-5 c =
-    let words = c .before in
+returns-5 c = search (unsigned, tests, comparisons) depth 12
+
+returns-6 : tie.Need-returns-6
+unfolding rowAt
+returns-6 c =
+    let items = c .before in
+    let words = items .before .before .before .before .before in
     let count = words .before .before .before .before in
     let offset = count .before .before .before .before in
     took32 _ _ _ _ (offset .before .before .before .u32-at .ensures) (offset .before .x .given .1)
     (took16 _ _ _ _ (count .before .before .before .u16-at .ensures) (count .before .x2 .given .1)
     (took16 _ _ _ _ (words .before .before .before .u16-at2 .ensures) (words .before .x3 .given .1)
-    (passed _ _ _ _ _ (le-leb (words .before .x3 .given .0 .0) (count .before .x2 .given .0 .0) (omega arith)) (answered _ _))))
+    (passed _ _ _ _ _ (le-leb (words .before .x3 .given .0 .0) (count .before .x2 .given .0 .0) (omega arith))
+    (took16 _ _ _ _ (items .before .before .before .u16-at3 .ensures) (items .before .x4 .given .1)
+    (failed _ _ _ _ (le-ltb (offset .before .before .before .before .before .args .inner) (items .before .x4 .given .0 .0) (omega arith)))))))
+
+returns-7 : tie.Need-returns-7
+unfolding rowAt
+returns-7 c = search (unsigned, tests, ends, comparisons) depth 14
 
 pub item-data-spec : {M : Type 1} → statement M
 item-data-spec =
@@ -113,4 +126,9 @@ item-data-spec =
     enum-known-n-3
     returns-3
     returns-4
-    returns-5)
+    u16-at-requires-3
+    enum-known-x-4
+    enum-known-n-4
+    returns-5
+    returns-6
+    returns-7)

@@ -44,7 +44,7 @@ enum suolluvik_refusal {
     SUOLLUVIK_ABSENT = 1,
     /* a read reaches past the end */
     SUOLLUVIK_SHORT = 2,
-    /* an axis, instance, subtable or region index, or the number of a vertical case, is not below its count */
+    /* an axis, instance, subtable, row or region index, or the number of a vertical case, is not below its count */
     SUOLLUVIK_INDEX = 3,
     /* a tag is not found */
     SUOLLUVIK_TAG = 4,

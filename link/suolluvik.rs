@@ -256,7 +256,7 @@ pub enum Refusal {
     Absent,
     /// A read reaches past the end.
     Short,
-    /// An axis, instance, subtable or region index is not below its count.
+    /// An axis, instance, subtable, row or region index is not below its count.
     Index,
     /// A tag is not found.
     Tag,

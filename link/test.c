@@ -51,19 +51,23 @@ static struct bytes bytes(const char *hex)
 #define S3 PLAIN STORE("c00020004000", "03")
 #define S4 PLAIN "0001 0000000c 0001 0000001c 0001 0002 c00020004000 c00020004000 0001 0002 0002 0000 0001 7fff 7fff"
 #define S5 PLAIN "0001 0000000c 0001 00000010 0001 0000 0001 0000 0000"
+/* One row, and a byte behind it; the triple is skipped. */
+#define ONE_ROW(words) PLAIN "0001 0000000c 0001 00000016 0001 0001 000000000000 0001" words "0001 0000 64 05"
 /* H1's map, for advances and for bearings, its store, and its store with a wrong region index and a wrong word count. */
 #define MAPS HVAR("00000018", "00000010", "00000010")
 #define MAP "0007 0003 000102 00"
-#define H1_ROWS(words, region) "0001 0000000c 0001 00000010 0000 0001 0003" words "0001" region "0a0b0c"
+#define H1_COUNTED(items, words, region) "0001 0000000c 0001 00000010 0000 0001" items words "0001" region "0a0b0c"
+#define H1_ROWS(words, region) H1_COUNTED("0003", words, region)
 #define H1 MAPS MAP H1_ROWS("0000", "0000")
 
 /* An HVAR at 4 and a VVAR at 90, each with two advances and two bearings. A row has a byte for the first axis, up to 1, and one
  * for the second, down to -1. At 8192 and -4096, in this order, HVAR's rows are 55, 23, 3 and -2.5, VVAR's 32, 16, 11 and 3.5.
  * A glyph past the first has the second entry of a map: 256, which is 0 in eight bits, has it too. */
 #define REGIONS "0002 0002 000040004000 000000000000 000000000000 c000c0000000"
-#define XVAR(rows) \
-    "00010000 00000010 0000004a 00000050 0001 0000000c 0001 00000028" REGIONS "0004 0000 0002 0000 0001" rows \
+#define XVAR_COUNTED(items, rows) \
+    "00010000 00000010 0000004a 00000050 0001 0000000c 0001 00000028" REGIONS items "0000 0002 0000 0001" rows \
     "0007 0002 0001 0007 0002 0203"
+#define XVAR(rows) XVAR_COUNTED("0004", rows)
 #define BOTH "00000000" XVAR("6414 280c 0af8 e232") XVAR("3c08 1810 1404 0602")
 
 /* An MVAR at 4 with the eleven measures, sorted; inner comes before outer. Its rows have a word for the first axis, and a byte
@@ -72,9 +76,10 @@ static struct bytes bytes(const char *hex)
 #define RECORDS \
     "63706874 0000 0000 68617363 0001 0000 68647363 0002 0000 686c6770 0003 0000 7374726f 0004 0000 756e646f 0005 0000" \
     "756e6473 0006 0000 76617363 0007 0000 76647363 0008 0000 766c6770 0009 0000 78686774 000a 0000"
-#define ROWS(words) \
-    "0001 0000000c 0001 00000028" REGIONS "000b" words "0002 0000 0001" \
+#define ROWS_COUNTED(items, words) \
+    "0001 0000000c 0001 00000028" REGIONS items words "0002 0000 0001" \
     "002801 006402 ffc403 000a05 000c06 fff807 000609 00c80a ff9c0b 000e0d 001e0e"
+#define ROWS(words) ROWS_COUNTED("000b", words)
 #define MEASURES MVAR_HEADER("000b", "0064") RECORDS ROWS("0001")
 #define ONE_RECORD(tail) MVAR_HEADER("0001", "0014") "68617363" tail "0001 0000000c 0001 00000016"
 
@@ -117,6 +122,12 @@ static const struct delta deltas[] = {
     {ADVANCE, "an offset far past the end", S1, 0xffffffff, 0, 1, {8192}, 2, 0},
     {ADVANCE, "no subtable", PLAIN "0001 0000000c 0000 00000016", 4, 0, 1, {8192}, 3, 0},
     {ADVANCE, "a region past the count", MAPS MAP H1_ROWS("0000", "0001"), 4, 0, 0, {0}, 3, 0},
+    {ADVANCE, "one row, glyph 0", ONE_ROW("0000"), 4, 0, 0, {0}, 0, 6553600},
+    {ADVANCE, "a row at the count", ONE_ROW("0000"), 4, 1, 0, {0}, 3, 0},
+    {ADVANCE, "a row past the count", ONE_ROW("0000"), 4, 65535, 0, {0}, 3, 0},
+    {ADVANCE, "a row at the count, more words than regions", ONE_ROW("0002"), 4, 1, 0, {0}, 5, 0},
+    {ADVANCE, "a row at the count, no regions", S5, 4, 1, 0, {0}, 3, 0},
+    {ADVANCE, "a row at the count, by a map", MAPS MAP H1_COUNTED("0002", "0000", "0000"), 4, 2, 0, {0}, 3, 0},
     {ADVANCE, "a map without entries", MAPS "0007 0000" H1_ROWS("0000", "0000"), 4, 0, 0, {0}, 5, 0},
     {ADVANCE, "more words than regions", MAPS MAP H1_ROWS("0002", "0000"), 4, 0, 0, {0}, 5, 0},
     {ADVANCE, "a store at 2^32", HVAR("fffffffc", "00000000", "00000000"), 4, 0, 0, {0}, 5, 0},
@@ -128,6 +139,8 @@ static const struct delta deltas[] = {
     {BEARING, "no map: S1", S1, 4, 0, 1, {8192}, 1, 0},
     {BEARING, "a font that ends in the HVAR", "00000000 00010000 00000018 00000010 000000", 4, 0, 0, {0}, 2, 0},
     {BEARING, "a region past the count", MAPS MAP H1_ROWS("0000", "0001"), 4, 0, 0, {0}, 3, 0},
+    {BEARING, "a row at the count", MAPS MAP H1_COUNTED("0002", "0000", "0000"), 4, 2, 0, {0}, 3, 0},
+    {BEARING, "VVAR, a row at the count", "00000000" XVAR("6414 280c 0af8 e232") XVAR_COUNTED("0003", "3c08 1810 1404 0602"), 90, 1, 0, {0}, 3, 0},
     {BEARING, "a map without entries", MAPS "0007 0000" H1_ROWS("0000", "0000"), 4, 0, 0, {0}, 5, 0},
     {BEARING, "more words than regions", MAPS MAP H1_ROWS("0002", "0000"), 4, 0, 0, {0}, 5, 0},
     {ADVANCE, "HVAR, two axes", BOTH, 4, 0, 2, {8192, -4096}, 0, 3604480},
@@ -150,6 +163,7 @@ static const struct delta deltas[] = {
     {MEASURE, "an offset past the end", MEASURES, 255, HASC, 1, {8192}, 2, 0},
     {MEASURE, "a font that ends in the header", "00000000 0001 0000 0000 0008 000b 00", 4, HASC, 1, {8192}, 2, 0},
     {MEASURE, "a subtable past the count", ONE_RECORD("0000 0001"), 4, HASC, 1, {8192}, 3, 0},
+    {MEASURE, "a row at the count", MVAR_HEADER("000b", "0064") RECORDS ROWS_COUNTED("0001", "0001"), 4, HASC, 1, {8192}, 3, 0},
     {MEASURE, "another tag", MEASURES, 4, TAG('s', 't', 'r', 's'), 1, {8192}, 4, 0},
     {MEASURE, "more words than regions", MVAR_HEADER("000b", "0064") RECORDS ROWS("0003"), 4, HASC, 1, {8192}, 5, 0},
 };

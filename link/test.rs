@@ -55,6 +55,9 @@ const S4: &str = "00000000 00010000 00000010 00000000 00000000 0001 0000000c 000
     0001 0002 c00020004000 c00020004000 0001 0002 0002 0000 0001 7fff 7fff";
 const S5: &str = "00000000 00010000 00000010 00000000 00000000 0001 0000000c 0001 00000010 \
     0001 0000 0001 0000 0000";
+// One row, and a byte behind it; the triple is skipped.
+const ONE_ROW: &str = "00000000 00010000 00000010 00000000 00000000 0001 0000000c 0001 00000016 \
+    0001 0001 0000 0000 0000 0001 0000 0001 0000 64 05";
 const H1: &str = "00000000 00010000 00000018 00000010 00000010 0007 0003 000102 00 \
     0001 0000000c 0001 00000010 0000 0001 0003 0000 0001 0000 0a0b0c";
 // An HVAR at 4 and a VVAR at 90, each with two advances and two bearings. A row has a byte for the first axis, up to 1, and one for
@@ -222,6 +225,19 @@ fn deltas(t: &mut Test) {
         &[],
         Err(Arithmetic),
     );
+    let row = &bytes(ONE_ROW)[..];
+    advance(t, "one row, glyph 0", row, 4, 0, &[], Ok(6553600));
+    advance(t, "a row at the count", row, 4, 1, &[], Err(Index));
+    advance(t, "a row past the count", row, 4, 65535, &[], Err(Index));
+    advance(
+        t,
+        "a row at the count, more words than regions",
+        &changed(ONE_ROW, 44, "0002"),
+        4,
+        1,
+        &[],
+        Err(Arithmetic),
+    );
     for (glyph, delta) in [
         (0, 655360),
         (1, 720896),
@@ -260,6 +276,21 @@ fn deltas(t: &mut Test) {
         4,
         0,
         &[],
+        Err(Index),
+    );
+    let two_rows = &changed(H1, 44, "0002")[..];
+    advance(t, "two rows, glyph 1", two_rows, 4, 1, &[], Ok(720896));
+    advance(t, "a row at the count", two_rows, 4, 2, &[], Err(Index));
+    bearing(t, "a row at the count", two_rows, 4, 2, &[], Err(Index));
+    let three_rows = &changed(BOTH, 146, "0003")[..];
+    bearing(t, "VVAR, three rows", three_rows, 90, 0, PLACE, Ok(720896));
+    bearing(
+        t,
+        "VVAR, a row at the count",
+        three_rows,
+        90,
+        1,
+        PLACE,
         Err(Index),
     );
     bearing(
@@ -309,6 +340,15 @@ fn deltas(t: &mut Test) {
         t,
         "a subtable past the count",
         &changed(MVAR, 30, "0001"),
+        4,
+        hasc,
+        &[],
+        Err(Index),
+    );
+    of_measure(
+        t,
+        "a row at the count",
+        &changed(MVAR, 144, "0001"),
         4,
         hasc,
         &[],

@@ -62,15 +62,19 @@ pub struct Expected {
     pub rust: Rust,
     /// the answer by the rules, in exact integers
     pub rule: String,
-    /// whether what the Rust does fits the rules' answer
+    /// whether what the Rust does fits the rules' answer; of a row outside the item count, their answer
+    /// without it
     pub agree: bool,
+    /// whether a row outside its subtable's item count is met
+    pub outside: bool,
 }
 
 impl Expected {
-    /// Where the Rust has no answer, or one without its number, the rules decide.
+    /// Where the Rust has no answer, or one without its number, and where it does not look at an item
+    /// count, the rules decide.
     fn answer(&self) -> &str {
         match &self.rust {
-            Rust::Answer(answer) => answer,
+            Rust::Answer(answer) if !self.outside => answer,
             _ => &self.rule,
         }
     }
@@ -122,6 +126,8 @@ struct Row {
     stops: u64,
     /// as the rules, where the Rust has no counterpart
     silent: u64,
+    /// as the rules, where a row outside its subtable's item count is met, whatever the Rust does
+    outside: u64,
     differences: u64,
     /// where what the Rust does doesn't fit the rules in exact integers
     broken_rules: u64,
@@ -159,6 +165,9 @@ impl Row {
         self.cases += 1;
         let want = wanted.map_or(NO_CASE, Expected::answer);
         let (count, by) = match wanted.map(|w| &w.rust) {
+            Some(_) if wanted.map_or(false, |w| w.outside) => {
+                (&mut self.outside, "the rule, for a row outside the count")
+            }
             Some(Rust::Stops) => (&mut self.stops, "the rule, where the Rust stops"),
             Some(Rust::Silent) => (&mut self.silent, "the rule; the Rust has no counterpart"),
             Some(Rust::None) => (&mut self.equal, "the rule, for the Rust's None"),
@@ -180,12 +189,13 @@ impl Row {
         }
     }
 
-    fn columns(&self) -> [u64; 6] {
+    fn columns(&self) -> [u64; COLUMNS.len()] {
         [
             self.cases,
             self.equal,
             self.stops,
             self.silent,
+            self.outside,
             self.differences,
             self.broken_rules,
         ]
@@ -196,16 +206,18 @@ impl Row {
         self.equal += row.equal;
         self.stops += row.stops;
         self.silent += row.silent;
+        self.outside += row.outside;
         self.differences += row.differences;
         self.broken_rules += row.broken_rules;
     }
 }
 
-const COLUMNS: [&str; 6] = [
+const COLUMNS: [&str; 7] = [
     "cases",
     "as the Rust",
     "Rust stops",
     "Rust silent",
+    "past count",
     "differences",
     "rule vs. Rust",
 ];
@@ -259,8 +271,8 @@ fn cases(seed: &str, count: &str, subject: &str) -> Option<Box<dyn Iterator<Item
     let seed = seed.parse().ok()?;
     let numbers = numbers::cases::Cases::new(seed);
     let mut axes = axes::cases::with_avar(seed);
-    let mut store = store::cases::Cases::new(seed);
-    let mut metrics = metrics::cases::Cases::new(seed);
+    let mut store = store::cases::with_counts(seed);
+    let mut metrics = metrics::cases::with_counts(seed);
     let all: Box<dyn Iterator<Item = String>> = match subject {
         "numbers" => Box::new(numbers),
         "axes" => Box::new(axes),
@@ -282,6 +294,9 @@ const SAMPLE: usize = 3000;
 /// Lines with an avar, behind those of the subjects.
 const SAMPLE_OF_AVAR: usize = 500;
 
+/// Lines of item counts, behind all others; of the metrics half as many.
+const SAMPLE_OF_COUNTS: usize = 400;
+
 fn run(words: &[&str]) -> Option<bool> {
     match *words {
         ["cases", seed, count, subject] => write_all(cases(seed, count, subject)?),
@@ -296,6 +311,8 @@ fn run(words: &[&str]) -> Option<bool> {
             write_all(store::cases::outer_bits().into_iter());
             write_all([store::TAG_CASE.to_string()].into_iter());
             write_all(store::cases::no_variation().into_iter());
+            write_all(store::cases::counts::sample(seed, SAMPLE_OF_COUNTS).into_iter());
+            write_all(metrics::cases::sample_of_counts(seed, SAMPLE_OF_COUNTS / 2).into_iter());
         }
         ["answers"] => {
             let answer = |line: String| {

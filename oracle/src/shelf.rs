@@ -37,7 +37,7 @@ mod store {
 use ask::Asker;
 use damage::Fields;
 use font::{Font, Kind};
-use judge::{Judge, Tally, FUNCTIONS};
+use judge::{Judge, Tally, COLUMNS, FUNCTIONS};
 use random::Random;
 use std::collections::BTreeMap;
 use std::ffi::OsString;
@@ -135,22 +135,14 @@ struct Row {
 }
 
 impl Row {
-    fn columns(&self) -> [u64; 8] {
-        let [cases, equal, none, stops, silent, differences] = self.tally.columns();
-        [
-            self.fonts,
-            self.without_fvar,
-            cases,
-            equal,
-            none,
-            stops,
-            silent,
-            differences,
-        ]
+    fn columns(&self) -> Vec<u64> {
+        let mut columns = vec![self.fonts, self.without_fvar];
+        columns.extend(self.tally.columns());
+        columns
     }
 }
 
-fn print_row<const N: usize>(width: usize, name: &str, cells: [impl Display; N]) {
+fn print_row(width: usize, name: &str, cells: &[impl Display]) {
     let mut row = format!("{name:width$}");
     for cell in cells {
         row += &format!("{cell:>13}");
@@ -245,32 +237,23 @@ impl Shelf {
     fn table(&self) -> bool {
         let names = self.rows.keys().map(|name| name.chars().count());
         let longest = names.chain(FUNCTIONS.map(str::len)).max().unwrap_or(0);
-        let columns = [
-            "fonts",
-            "without fvar",
-            "cases",
-            "equal",
-            "None",
-            "Rust stops",
-            "Rust silent",
-            "differences",
-        ];
-        print_row(longest, "folder", columns);
+        let mut columns = vec!["fonts", "without fvar"];
+        columns.extend(COLUMNS);
+        print_row(longest, "folder", &columns);
         let mut total = Row::default();
         for (name, row) in &self.rows {
-            print_row(longest, name, row.columns());
+            print_row(longest, name, &row.columns());
             total.fonts += row.fonts;
             total.without_fvar += row.without_fvar;
             total.tally.add(&row.tally);
         }
-        print_row(longest, "all", total.columns());
+        print_row(longest, "all", &total.columns());
         println!();
-        let columns: [&str; 6] = columns[2..].try_into().unwrap();
-        print_row(longest, "function", columns);
+        print_row(longest, "function", &COLUMNS);
         for (name, tally) in FUNCTIONS.iter().zip(&self.functions) {
-            print_row(longest, name, tally.columns());
+            print_row(longest, name, &tally.columns());
         }
-        print_row(longest, "all", total.tally.columns());
+        print_row(longest, "all", &total.tally.columns());
         total.tally.differences == 0
     }
 }

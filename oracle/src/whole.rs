@@ -38,7 +38,7 @@ mod metrics {
     pub mod rules;
 }
 
-use font::Font;
+use font::{Font, Phase};
 use judge::Judge;
 use measures::Metrics;
 use std::io::{self, BufRead};
@@ -99,7 +99,10 @@ impl Reader {
             }
             ("avar", [bytes]) => self.begin(|font| font.put_avar(bytes))?,
             ("filled", [vvar, mvar, behind, changes @ ..]) => {
-                self.begin(|font| font.fill(vvar, mvar, behind, changes))?
+                self.begin(|font| font.fill(Phase::Filled, vvar, mvar, behind, changes))?
+            }
+            ("halved", [vvar, mvar, behind, changes @ ..]) => {
+                self.begin(|font| font.fill(Phase::Halved, vvar, mvar, behind, changes))?
             }
             ("end", []) => {
                 self.settle();

@@ -456,6 +456,7 @@ impl Case {
             agree: self.agree(&rust, &rule),
             rust,
             rule,
+            outside: false,
         }
     }
 }

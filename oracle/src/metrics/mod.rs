@@ -7,7 +7,7 @@ mod rules;
 use crate::private::internal::{set_unvaried, Unvaried};
 use crate::private::metrics::{GlyphMetrics, Metrics, MetricsProxy, VerticalNumbers};
 use crate::private::FontRef;
-use crate::store::rules::Map;
+use crate::store::rules::{Map, Rows, COUNTED, UNCOUNTED};
 use crate::text;
 use crate::{Expected, Rust};
 use rules::{Measures, Place, Vertical};
@@ -310,13 +310,9 @@ impl Case {
         }
     }
 
-    /// What the rules say, and whether a delta is refused by 5 on the way.
-    fn by_rules(&self) -> (String, bool) {
-        let mut place = Place {
-            font: &self.font,
-            coords: &self.coords,
-            refused_by_5: false,
-        };
+    /// What the rules say, and the place, which knows what was met on the way.
+    fn by_rules(&self, rows: Rows) -> (String, Place<'_>) {
+        let mut place = Place::new(&self.font, &self.coords, rows);
         let Unvaried {
             advance,
             bearing,
@@ -356,16 +352,20 @@ impl Case {
             "has_vertical_metrics" => truth(!matches!(self.vertical, Vertical::Synthesized { .. })),
             _ => unreachable!(),
         };
-        (said, place.refused_by_5)
+        (said, place)
     }
 
     pub fn expected(&self) -> Expected {
         let rust = Rust::of(|| self.rust());
-        let (rule, refused_by_5) = self.by_rules();
+        let (rule, met) = self.by_rules(COUNTED);
+        // It may be that one delta has a row outside the item count and another one has none: the Rust is held to
+        // what all of them are without it.
+        let (theirs, place) = self.by_rules(UNCOUNTED);
+        assert!(met.rows.outside || theirs == rule);
         // The Rust stops where a delta is refused by 5, and nowhere else.
         let agree = match &rust {
-            Rust::Answer(answer) => *answer == rule && !refused_by_5,
-            Rust::Stops => refused_by_5,
+            Rust::Answer(answer) => *answer == theirs && !place.refused_by_5,
+            Rust::Stops => place.refused_by_5,
             Rust::Silent => self.name == MATERIALIZE,
             Rust::None => false,
         };
@@ -374,6 +374,7 @@ impl Case {
             rust,
             rule,
             agree,
+            outside: met.rows.outside,
         }
     }
 }

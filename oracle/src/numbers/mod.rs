@@ -132,6 +132,7 @@ impl Case {
             rust,
             rule,
             agree,
+            outside: false,
         }
     }
 }

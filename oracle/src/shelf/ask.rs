@@ -11,7 +11,7 @@ use crate::private::setting::Setting;
 use crate::private::variation::{Instances, Variation, Variations};
 use crate::private::FontRef;
 use crate::random::Random;
-use crate::store::rules::{self as store_rules, Map};
+use crate::store::rules::{self as store_rules, Map, Rows, COUNTED, UNCOUNTED};
 use crate::suolluvik::{self, Refusal};
 use crate::tags::TAGS;
 
@@ -406,7 +406,8 @@ impl<'a> Asker<'a, '_> {
             tags.dedup();
         }
         for tag in tags {
-            let rule = || store_rules::tag_delta(font, mvar as usize, tag, coords);
+            let rule =
+                |rows: &mut Rows| store_rules::tag_delta(font, mvar as usize, tag, coords, rows);
             let arguments = || format!("offset {mvar}, tag {tag:08x}, coordinates {coords:?}");
             let raw = asked(|| {
                 let opened = shown::Mvar::new(font, mvar, coords);
@@ -490,7 +491,9 @@ impl<'a> Asker<'a, '_> {
         coords: &[i16],
     ) {
         let font = self.font.data;
-        let rule = || store_rules::metric(font, table as usize, map, glyph as usize, coords);
+        let rule = |rows: &mut Rows| {
+            store_rules::metric(font, table as usize, map, glyph as usize, coords, rows)
+        };
         let arguments = || format!("offset {table}, glyph {glyph}, coordinates {coords:?}");
         let (raw, float, ours) = match map {
             Map::Advance => (
@@ -515,7 +518,8 @@ impl<'a> Asker<'a, '_> {
     }
 
     /// A delta in its two forms. The raw one comes through the hook; its float must be the one that
-    /// the unchanged file answers, where 0.0 stands for `None` too.
+    /// the unchanged file answers, where 0.0 stands for `None` too. The second model is asked where the
+    /// row is outside the item count.
     fn delta(
         &mut self,
         [fixed, float]: [Function; 2],
@@ -523,7 +527,7 @@ impl<'a> Asker<'a, '_> {
         rust: Rust<i32>,
         rust_float: Rust<u32>,
         ours: (Result<i32, Refusal>, Result<f32, Refusal>),
-        rule: impl Fn() -> Answer<i64>,
+        rule: impl Fn(&mut Rows) -> Answer<i64>,
     ) {
         let (alike, rust_float) = match (&rust, rust_float) {
             (Rust::Answer(raw), Rust::Answer(bits)) => {
@@ -535,15 +539,18 @@ impl<'a> Asker<'a, '_> {
             (_, rust_float) => (false, rust_float),
         };
         assert!(alike, "the hook and the float differ: {}", arguments());
-        let by_rule = || rule().map(|delta| delta as i32);
-        let float_by_rule = || rule().map(|delta| to_f32(delta as i128));
-        let never = || false;
+        let mut rows = COUNTED;
+        let said = rule(&mut rows);
+        let uncounted = rows.outside.then(|| rule(&mut { UNCOUNTED }));
+        let raw = |said: Answer<i64>| said.map(|delta| delta as i32);
         let given = ours.0.map_err(Refusal::number);
-        self.judge
-            .judge(fixed, &arguments, rust, given, by_rule, never);
+        let by_rules = (raw(said), uncounted.map(raw));
+        self.judge.delta(fixed, &arguments, rust, given, by_rules);
+        let bits = |said: Answer<i64>| said.map(|delta| to_f32(delta as i128));
         let given = ours.1.map(f32::to_bits).map_err(Refusal::number);
+        let by_rules = (bits(said), uncounted.map(bits));
         self.judge
-            .judge(float, &arguments, rust_float, given, float_by_rule, never);
+            .delta(float, &arguments, rust_float, given, by_rules);
     }
 }
 

@@ -163,7 +163,7 @@ impl Fields {
         for k in 0..count.min(MOST) {
             self.push(store + 8 + 4 * k, &[0], 4);
             let subtable = store + u32_at(data, store + 8 + 4 * k).unwrap_or(0) as usize;
-            self.push(subtable, &[2, 4, 2, 4, 6, 8, 10], 2);
+            self.push(subtable, &[0, 2, 4, 2, 4, 6, 8, 10], 2);
             self.push(subtable + 10, &[0, 1, 2, 3, 4, 5, 6, 7], 1);
         }
     }

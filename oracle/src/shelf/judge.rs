@@ -87,8 +87,20 @@ pub struct Tally {
     pub stops: u64,
     /// the same where it has no counterpart
     pub silent: u64,
+    /// refusal 3, where the row is outside its subtable's item count, whatever the Rust does
+    pub outside: u64,
     pub differences: u64,
 }
+
+pub const COLUMNS: [&str; 7] = [
+    "cases",
+    "equal",
+    "None",
+    "Rust stops",
+    "Rust silent",
+    "past count",
+    "differences",
+];
 
 impl Tally {
     pub fn add(&mut self, other: &Tally) {
@@ -97,16 +109,18 @@ impl Tally {
         self.none += other.none;
         self.stops += other.stops;
         self.silent += other.silent;
+        self.outside += other.outside;
         self.differences += other.differences;
     }
 
-    pub fn columns(&self) -> [u64; 6] {
+    pub fn columns(&self) -> [u64; COLUMNS.len()] {
         [
             self.cases,
             self.equal,
             self.none,
             self.stops,
             self.silent,
+            self.outside,
             self.differences,
         ]
     }
@@ -159,19 +173,47 @@ impl Judge {
         rule: impl FnOnce() -> Answer<T>,
         few_left: impl FnOnce() -> bool,
     ) {
+        self.case(function, arguments, rust, ours, (rule(), None), few_left);
+    }
+
+    /// The same for a delta. Where its row is outside the item count there are two answers: ours is the rule's, and the
+    /// Rust's that of the second model, which does not look at the count.
+    pub fn delta<T: PartialEq + Debug>(
+        &mut self,
+        function: Function,
+        arguments: impl Fn() -> String,
+        rust: Rust<T>,
+        ours: Answer<T>,
+        rules: (Answer<T>, Option<Answer<T>>),
+    ) {
+        self.case(function, arguments, rust, ours, rules, || false);
+    }
+
+    fn case<T: PartialEq + Debug>(
+        &mut self,
+        function: Function,
+        arguments: impl Fn() -> String,
+        rust: Rust<T>,
+        ours: Answer<T>,
+        (said, uncounted): (Answer<T>, Option<Answer<T>>),
+        few_left: impl FnOnce() -> bool,
+    ) {
         let tally = &mut self.tallies[function as usize];
         tally.cases += 1;
-        let said = rule();
-        let (count, fits) = match &rust {
-            Rust::Answer(answer) => (&mut tally.equal, said.as_ref() == Ok(answer)),
-            Rust::None => (&mut tally.none, matches!(said, Err(1..=4))),
+        let theirs = uncounted.as_ref().unwrap_or(&said);
+        let (mut count, fits) = match &rust {
+            Rust::Answer(answer) => (&mut tally.equal, theirs.as_ref() == Ok(answer)),
+            Rust::None => (&mut tally.none, matches!(theirs, Err(1..=4))),
             Rust::Stops => {
-                let fits = said == Err(5) || (said == Err(2) && few_left());
+                let fits = *theirs == Err(5) || (*theirs == Err(2) && few_left());
                 (&mut tally.stops, fits)
             }
-            Rust::Silent => (&mut tally.silent, matches!(said, Err(6..=7))),
+            Rust::Silent => (&mut tally.silent, matches!(theirs, Err(6..=7))),
         };
-        // the rules' answer is the Rust's where that answers
+        if uncounted.is_some() {
+            count = &mut tally.outside;
+        }
+        // the rules' answer is the Rust's where that answers, and the row is inside the count
         let same = ours == said;
         if fits && same {
             *count += 1;
@@ -188,6 +230,9 @@ impl Judge {
         println!("    {}, {}", FUNCTIONS[function as usize], arguments());
         println!("    ours {}", answer_text(&ours));
         println!("    the Rust {done}; the rules {}", answer_text(&said));
+        if let Some(theirs) = &uncounted {
+            println!("    without the item count {}", answer_text(theirs));
+        }
     }
 }
 

@@ -1,6 +1,8 @@
 //! Cases of the item variation store, HVAR, VVAR and MVAR: whole fonts of many shapes cut at every
 //! byte, every kind of triple, map, count and offset, and random fonts, whole, damaged and cut.
 
+pub mod counts;
+
 use super::{FUNCTIONS, NEW};
 use crate::random::Random;
 use crate::text;
@@ -738,6 +740,9 @@ fn coords(store: &Store, random: &mut Random) -> String {
     coords_text(&list)
 }
 
+/// Picks outer and inner index.
+type RowOf = fn(&Store, &mut Random) -> (u32, u16);
+
 /// Outer and inner index, mostly of a row that is there.
 fn row_of(store: &Store, random: &mut Random) -> (u32, u16) {
     let outer = random.below(store.subtables.len() as u64 + 1) as usize;
@@ -754,7 +759,7 @@ fn row_of(store: &Store, random: &mut Random) -> (u32, u16) {
     (outer as u32, inner as u16)
 }
 
-fn map(store: &Store, random: &mut Random) -> Map {
+fn map(store: &Store, row_of: RowOf, random: &mut Random) -> Map {
     let format = random.below(64) as u16;
     let bits = format % 16 + 1;
     let count = match random.below(24) {
@@ -835,18 +840,17 @@ fn offset(right: usize, font: &[u8], random: &mut Random) -> u32 {
     }
 }
 
-fn item_case(random: &mut Random) -> String {
-    let store = store(random);
+fn item_case(store: &Store, row_of: RowOf, random: &mut Random) -> String {
     let at = 1 + random.below(6) as usize;
     let font = damaged([vec![0xaa; at], store.bytes()].concat(), random);
-    let (outer, inner) = row_of(&store, random);
+    let (outer, inner) = row_of(store, random);
     let outer = match random.below(24) {
         0 => random.pick(&[65535, 65536, 65537, 1 << 31, u32::MAX]),
         1 => outer | 1 << 16,
         2 => store.subtables.len() as u32,
         _ => outer,
     };
-    let coords = coords(&store, random);
+    let coords = coords(store, random);
     let at = offset(at, &font, random);
     line(
         "item_delta",
@@ -856,14 +860,17 @@ fn item_case(random: &mut Random) -> String {
 }
 
 pub fn glyph_case(name: &str, random: &mut Random) -> String {
-    let store = store(random);
-    let maps = [map(&store, random), map(&store, random)];
+    glyph_case_of(name, &store(random), row_of, random)
+}
+
+fn glyph_case_of(name: &str, store: &Store, row_of: RowOf, random: &mut Random) -> String {
+    let maps = [map(store, row_of, random), map(store, row_of, random)];
     // a bearing has no delta without a map
     let bearings = name.starts_with("sb");
     let [advance, bearing] =
         [bearings, !bearings].map(|seldom| random.below(8) < 7 - 3 * seldom as u64);
     let [a, b] = &maps;
-    let font = hvar(advance.then_some(a), bearing.then_some(b), &store);
+    let font = hvar(advance.then_some(a), bearing.then_some(b), store);
     let font = damaged(font, random);
     let entries = if bearings { b.count } else { a.count } as u64;
     let glyph = match random.below(16) {
@@ -872,14 +879,23 @@ pub fn glyph_case(name: &str, random: &mut Random) -> String {
         2 => entries,
         _ => random.below(entries.max(2)),
     };
-    let coords = coords(&store, random);
+    let coords = coords(store, random);
     let base = offset(BASE, &font, random);
     line(name, &font, &format!(" {base} {glyph} {coords}"))
 }
 
 /// An MVAR whose records have these tags, or the next ones.
 pub fn mvar_case(name: &str, tags: &[u32], random: &mut Random) -> String {
-    let store = store(random);
+    mvar_case_of(name, tags, &store(random), row_of, random)
+}
+
+fn mvar_case_of(
+    name: &str,
+    tags: &[u32],
+    store: &Store,
+    row_of: RowOf,
+    random: &mut Random,
+) -> String {
     let count = match random.below(16) {
         0 => 0,
         1 => random.below(20),
@@ -887,7 +903,7 @@ pub fn mvar_case(name: &str, tags: &[u32], random: &mut Random) -> String {
     };
     let mut records: Vec<Record> = (0..count)
         .map(|_| {
-            let (outer, inner) = row_of(&store, random);
+            let (outer, inner) = row_of(store, random);
             (
                 random.pick(tags).wrapping_add(random.below(2) as u32),
                 inner,
@@ -903,13 +919,13 @@ pub fn mvar_case(name: &str, tags: &[u32], random: &mut Random) -> String {
         _ => 8,
     };
     let at = random.pick(&[0, 0, 0, 1, 5]);
-    let font = [vec![0xaa; at], mvar(size as u16, &records, &store)].concat();
+    let font = [vec![0xaa; at], mvar(size as u16, &records, store)].concat();
     let font = damaged(font, random);
     let tag = match records.is_empty() || random.below(8) == 0 {
         true => random.pick(tags),
         false => random.pick(&records).0,
     };
-    let coords = coords(&store, random);
+    let coords = coords(store, random);
     let at = offset(at, &font, random);
     match name {
         NEW => line(name, &font, &format!(" {at}")),
@@ -919,7 +935,7 @@ pub fn mvar_case(name: &str, tags: &[u32], random: &mut Random) -> String {
 
 fn random_case(name: &str, random: &mut Random) -> String {
     match name {
-        "item_delta" => item_case(random),
+        "item_delta" => item_case(&store(random), row_of, random),
         _ if name.starts_with("mvar") => mvar_case(name, &TAGS, random),
         _ => glyph_case(name, random),
     }
@@ -931,6 +947,8 @@ pub struct Cases {
     edges: Edges,
     made: u64,
     random: Random,
+    /// makes a random case of a function
+    random_case: fn(&str, &mut Random) -> String,
 }
 
 impl Cases {
@@ -939,8 +957,19 @@ impl Cases {
             edges: Edges::new(),
             made: 0,
             random: Random::new(seed ^ 0x4856_4152),
+            random_case,
         }
     }
+}
+
+/// Every fourth case is one of item counts.
+pub fn with_counts(seed: u64) -> impl Iterator<Item = String> {
+    let mut others = Cases::new(seed);
+    let mut counts = counts::cases(seed);
+    (0..).map_while(move |turn: u64| match turn % 4 {
+        3 => counts.next(),
+        _ => others.next(),
+    })
 }
 
 impl Iterator for Cases {
@@ -954,7 +983,7 @@ impl Iterator for Cases {
         self.made += 1;
         if odd || turn >= edges {
             let (name, _) = FUNCTIONS[self.random.below(FUNCTIONS.len() as u64) as usize];
-            Some(random_case(name, &mut self.random))
+            Some((self.random_case)(name, &mut self.random))
         } else {
             Some(self.edges.nth(turn * STRIDE % edges))
         }

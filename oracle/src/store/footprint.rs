@@ -65,8 +65,8 @@ impl Walk<'_> {
         }
     }
 
-    /// store + 2..+ 7; the region list's first four; the subtable's offset; subtable + 2..+ 5; its
-    /// region indices; all triples of each region named with a valid index; the row.
+    /// store + 2..+ 7; the region list's first four; the subtable's offset; subtable + 2..+ 5, then
+    /// + 0..+ 1; its region indices; all triples of each region named with a valid index; the row.
     fn item(&mut self, store: usize, outer: usize, inner: usize) -> Option<()> {
         refused_if(store == 0)?;
         let subtable_count = self.read(store + 6, 2)?;
@@ -78,6 +78,8 @@ impl Walk<'_> {
         let index_count = self.read(subtable + 4, 2)?;
         let word_count = self.read(subtable + 2, 2)?;
         refused_if(word_count > index_count)?;
+        let item_count = self.read(subtable, 2)?;
+        refused_if(inner >= item_count)?;
         let row = subtable + 6 + 2 * index_count + inner * (index_count + word_count);
         for k in 0..index_count {
             let region = self.read(subtable + 6 + 2 * k, 2)?;
@@ -212,7 +214,7 @@ pub fn by_hand() {
 
 fn examples() {
     let s1 = font(S1);
-    let bytes = [(8, 15), (22, 41), (44, 50)];
+    let bytes = [(8, 15), (22, 50)];
     is(advance(&s1, 0), &s1, &bytes, &[0]);
     let bearing = metric(&s1, 4, Map::Bearing, 0);
     is(bearing, &s1, &[(8, 11), (16, 19)], &[]);
@@ -224,7 +226,7 @@ fn examples() {
         "00000000 00010000 00000018 00000010 00000000 0007 0003 000102 00
          0001 0000000c 0001 00000010 0000 0001 0003 0000 0001 0000 0a0b0c",
     );
-    let bytes = [(8, 15), (20, 23), (26, 26), (30, 43), (46, 51), (54, 54)];
+    let bytes = [(8, 15), (20, 23), (26, 26), (30, 51), (54, 54)];
     is(advance(&h1, 3), &h1, &bytes, &[]);
     let mut no_entries = h1.clone();
     no_entries[22..24].fill(0);
@@ -234,18 +236,25 @@ fn examples() {
 
 /// S1 with one number changed: nothing is covered after a refusal outside the triples.
 fn refused() {
-    let changes: [(usize, &str, &[(usize, usize)]); 6] = [
+    let changes: [(usize, &str, &[(usize, usize)]); 8] = [
         (8, "00000000", &[(8, 11)]),
         (8, "fffffffc", &[(8, 11)]),
         (26, "0000", &[(8, 15), (26, 27)]),
         (28, "0000ffff", &[(8, 15), (22, 35)]),
         (44, "0002", &[(8, 15), (22, 35), (44, 47)]),
-        (48, "0001", &[(8, 15), (22, 35), (44, 49)]),
+        (42, "00000002", &[(8, 15), (22, 35), (44, 47)]),
+        (42, "0000", &[(8, 15), (22, 35), (42, 47)]),
+        (48, "0001", &[(8, 15), (22, 35), (42, 49)]),
     ];
     for (at, number, bytes) in changes {
         let (mut s1, number) = (font(S1), font(number));
         s1[at..at + number.len()].copy_from_slice(&number);
         is(advance(&s1, 0), &s1, bytes, &[]);
+    }
+    // a row outside the count is refused by the count, whatever lies behind it
+    let s1 = font(S1);
+    for font in [&s1[..], &s1[..48]] {
+        is(advance(font, 1), font, &[(8, 15), (22, 35), (42, 47)], &[]);
     }
 }
 
@@ -254,19 +263,17 @@ fn cut() {
     let s1 = font(S1);
     is(advance(&s1[..12], 0), &s1[..12], &[(8, 11)], &[]);
     let entry = &s1[..50];
-    is(
-        advance(entry, 0),
-        entry,
-        &[(8, 15), (22, 41), (44, 49)],
-        &[0],
-    );
+    is(advance(entry, 0), entry, &[(8, 15), (22, 49)], &[0]);
+    let index = &s1[..48];
+    let bytes = [(8, 15), (22, 35), (42, 47)];
+    is(advance(index, 0), index, &bytes, &[]);
     // two region indices and no row, the second index past the end or behind an entry that is
     let two = font(
         "00000000 00010000 00000010 00000000 00000000 0001 0000000c 0001 00000010
          0000 0001 0001 0000 0002 0000 0000",
     );
     for font in [&two[..44], &two] {
-        is(advance(font, 0), font, &[(8, 15), (22, 35), (38, 43)], &[]);
+        is(advance(font, 0), font, &[(8, 15), (22, 43)], &[]);
     }
     // two axes; the row names region 1, whose second triple is cut, then region 0
     let triple = font(
@@ -274,11 +281,11 @@ fn cut() {
          0001 0000 0002 0001 0000 07 05
          0002 0002 c000 2000 4000 c000 2000 4000 0000 4000 4000 0000 4000",
     );
-    let bytes = [(8, 15), (22, 31), (34, 65)];
+    let bytes = [(8, 15), (22, 65)];
     is(advance(&triple, 0), &triple, &bytes, &[0]);
     let parts = advance(&triple, 0).parts;
     let header = [(8, 4), (12, 4), (26, 2), (22, 4), (44, 2), (46, 2), (28, 4)];
-    let counts = [(36, 2), (34, 2)];
+    let counts = [(36, 2), (34, 2), (32, 2)];
     let region_1 = [(38, 2), (60, 6), (42, 1)];
     let region_0 = [(40, 2), (48, 6), (54, 6), (43, 1)];
     let places = [&header[..], &counts, &region_1, &region_0].concat();
@@ -292,7 +299,7 @@ fn mvar() {
          0001 0000000c 0001 00000010 0000 0001 0002 0000 0001 0000 0a0b",
     );
     let hasc = u32::from_be_bytes(*b"hasc");
-    let bytes = [(8, 29), (32, 45), (48, 53), (55, 55)];
+    let bytes = [(8, 29), (32, 53), (55, 55)];
     is(tag(&mvar, 2, hasc), &mvar, &bytes, &[]);
     // a tag that is not found has the records alone, and so has a search that meets a cut one
     is(tag(&mvar, 2, 0), &mvar, &[(8, 29)], &[]);

@@ -14,7 +14,7 @@ use crate::tags::TAGS;
 use crate::text;
 use crate::{Expected, Rust};
 use footprint::Footprint;
-use rules::Map;
+use rules::{Map, Rows, COUNTED, UNCOUNTED};
 
 #[derive(Clone, Copy, PartialEq)]
 pub enum Kind {
@@ -159,7 +159,7 @@ impl Case {
     }
 
     /// What the rules say: a delta, or the numbers of an MVAR that opens.
-    fn by_rules(&self) -> Answer<Vec<i64>> {
+    fn by_rules(&self, rows: &mut Rows) -> Answer<Vec<i64>> {
         let (font, coords) = (&self.font[..], &self.coords[..]);
         let n: Vec<usize> = self.numbers.iter().map(|n| *n as usize).collect();
         let delta = match self.name {
@@ -168,12 +168,14 @@ impl Case {
                 let numbers = [mvar.record_size, mvar.record_count, mvar.store];
                 return Ok(numbers.map(|n| n as i64).to_vec());
             }
-            "item_delta" => rules::item(font, n[0], n[1], n[2], coords)?,
+            "item_delta" => rules::item(font, n[0], n[1], n[2], coords, rows)?,
             "advance_fixed" | "advance_delta" => {
-                rules::metric(font, n[0], Map::Advance, n[1], coords)?
+                rules::metric(font, n[0], Map::Advance, n[1], coords, rows)?
             }
-            "sb_fixed" | "sb_delta" => rules::metric(font, n[0], Map::Bearing, n[1], coords)?,
-            "mvar_fixed" | "mvar_delta" => rules::tag_delta(font, n[0], self.numbers[1], coords)?,
+            "sb_fixed" | "sb_delta" => rules::metric(font, n[0], Map::Bearing, n[1], coords, rows)?,
+            "mvar_fixed" | "mvar_delta" => {
+                rules::tag_delta(font, n[0], self.numbers[1], coords, rows)?
+            }
             _ => unreachable!(),
         };
         Ok(vec![delta])
@@ -211,22 +213,29 @@ impl Case {
 
     pub fn expected(&self) -> Expected {
         let rust = Rust::of(|| self.rust().unwrap_or(Rust::None));
-        let said = self.by_rules();
+        let mut rows = COUNTED;
+        let said = self.by_rules(&mut rows);
         let rule = self.text(&said);
+        // Of a row outside the item count the Rust is held to the bytes that lie there.
+        let theirs = match rows.outside {
+            true => self.by_rules(&mut { UNCOUNTED }),
+            false => said,
+        };
         // `None` is one of 1 to 4; of a float, and of opening, it is an MVAR that doesn't open: 1 or 2. A stop is 5.
         // An outer index that the Rust can't be given is 3, or what comes before.
         let agree = match &rust {
-            Rust::Answer(answer) => *answer == rule,
-            Rust::None if self.is_float() || self.name == NEW => matches!(said, Err(1..=2)),
-            Rust::None => matches!(said, Err(1..=4)),
-            Rust::Stops => said == Err(5),
-            Rust::Silent => matches!(said, Err(1..=3)),
+            Rust::Answer(answer) => *answer == self.text(&theirs),
+            Rust::None if self.is_float() || self.name == NEW => matches!(theirs, Err(1..=2)),
+            Rust::None => matches!(theirs, Err(1..=4)),
+            Rust::Stops => theirs == Err(5),
+            Rust::Silent => matches!(theirs, Err(1..=3)),
         };
         Expected {
             name: self.name,
             rust,
             rule,
             agree,
+            outside: rows.outside,
         }
     }
 }
@@ -256,5 +265,6 @@ pub fn tags(line: &str) -> Option<Expected> {
         agree: rust == rule,
         rust: Rust::Answer(rust),
         rule,
+        outside: false,
     })
 }

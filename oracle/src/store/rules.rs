@@ -58,10 +58,37 @@ fn scalar(font: &[u8], p: usize, axis_count: usize, coords: &[i16]) -> Answer<i1
     Ok(scalar)
 }
 
+/// What becomes of a row outside its subtable's item count, and whether one was met.
+#[derive(Clone, Copy)]
+pub struct Rows {
+    pub counted: bool,
+    pub outside: bool,
+}
+
+/// The rule: OpenType has no such item, and the row is refused by 3.
+pub const COUNTED: Rows = Rows {
+    counted: true,
+    outside: false,
+};
+
+/// A second model, for the Rust, which does not look at the count: the bytes that lie there are the
+/// row. It was document 01's rule before W-201.
+pub const UNCOUNTED: Rows = Rows {
+    counted: false,
+    outside: false,
+};
+
 /// Order: offset 0; subtable count; outer; region list offset; axis count, region count; subtable
-/// offset; region index count; word count; refusal 5. For each region index in turn: read it, refuse
-/// 3 if too large, walk the region's triples, then read the entry.
-pub fn item(font: &[u8], store: usize, outer: usize, inner: usize, coords: &[i16]) -> Answer<i64> {
+/// offset; region index count; word count; refusal 5; item count; inner. For each region index in
+/// turn: read it, refuse 3 if too large, walk the region's triples, then read the entry.
+pub fn item(
+    font: &[u8],
+    store: usize,
+    outer: usize,
+    inner: usize,
+    coords: &[i16],
+    rows: &mut Rows,
+) -> Answer<i64> {
     if store == 0 {
         return Err(1);
     }
@@ -77,6 +104,12 @@ pub fn item(font: &[u8], store: usize, outer: usize, inner: usize, coords: &[i16
     let word_count = place(font, subtable + 2, 2)?;
     if word_count > index_count {
         return Err(5);
+    }
+    if inner >= place(font, subtable, 2)? {
+        rows.outside = true;
+        if rows.counted {
+            return Err(3);
+        }
     }
     let indices = subtable + 6;
     let mut entry = indices + 2 * index_count + inner * (index_count + word_count);
@@ -104,7 +137,14 @@ pub enum Map {
 
 /// Order: base 0, store offset, its 0, its sum with base, map offset, its 0, format, count, count 0,
 /// entry, then the store's.
-pub fn metric(font: &[u8], base: usize, map: Map, glyph: usize, coords: &[i16]) -> Answer<i64> {
+pub fn metric(
+    font: &[u8],
+    base: usize,
+    map: Map,
+    glyph: usize,
+    coords: &[i16],
+    rows: &mut Rows,
+) -> Answer<i64> {
     if base == 0 {
         return Err(1);
     }
@@ -123,7 +163,7 @@ pub fn metric(font: &[u8], base: usize, map: Map, glyph: usize, coords: &[i16]) 
         0 => (0, glyph),
         _ => map_entry(font, base + offset, glyph)?,
     };
-    item(font, store + base, outer, inner, coords)
+    item(font, store + base, outer, inner, coords, rows)
 }
 
 /// A glyph's outer and inner index, by the map at p. A glyph at or past the count uses the last
@@ -164,7 +204,13 @@ pub fn open(font: &[u8], offset: usize) -> Answer<Mvar<'_>> {
 
 /// Search from l = 0, h = count, middle floor((l + h) / 2); the record has its inner index at 4, its
 /// outer index at 6.
-pub fn tag_delta(font: &[u8], offset: usize, tag: u32, coords: &[i16]) -> Answer<i64> {
+pub fn tag_delta(
+    font: &[u8],
+    offset: usize,
+    tag: u32,
+    coords: &[i16],
+    rows: &mut Rows,
+) -> Answer<i64> {
     let mvar = open(font, offset)?;
     let (mut l, mut h) = (0, mvar.record_count);
     while l < h {
@@ -174,7 +220,7 @@ pub fn tag_delta(font: &[u8], offset: usize, tag: u32, coords: &[i16]) -> Answer
         if found == tag as i128 {
             let inner = place(mvar.part, record + 4, 2)?;
             let outer = place(mvar.part, record + 6, 2)?;
-            return item(mvar.part, mvar.store, outer, inner, coords);
+            return item(mvar.part, mvar.store, outer, inner, coords, rows);
         }
         if (tag as i128) < found {
             h = middle;

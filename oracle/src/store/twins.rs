@@ -2,9 +2,11 @@
 //! another font of the same length, equal over the footprint, and other coordinates, equal on the axes
 //! in use, a missing one being 0: both must have one answer.
 
-use super::cases::{self, Cases};
+use super::cases::{self, counts};
 use super::footprint::{self, Footprint};
-use super::{parse, rules, Case, NEW};
+use super::rules::{self, COUNTED};
+use super::{parse, Case, NEW};
+use crate::axes::rules::Answer;
 use crate::random::Random;
 use crate::text::LIST;
 use crate::{expected, lines as lines_of, print_row, Expected, Rust, BATCH};
@@ -62,9 +64,10 @@ struct Twins {
 
 impl Twins {
     fn new(seed: u64) -> Self {
-        let listed = cases::LISTED.lines().map(str::to_string);
+        let listed = cases::LISTED.lines().chain(counts::LISTED.lines());
+        let listed = listed.map(str::to_string);
         Twins {
-            cases: Box::new(listed.chain(Cases::new(seed))),
+            cases: Box::new(listed.chain(cases::with_counts(seed))),
             random: Random::new(seed ^ 0x7477_696e),
         }
     }
@@ -115,8 +118,10 @@ fn differences([case, twin]: &[Side; 2], given: &[String; 2]) -> Vec<&'static st
     let (a, b) = (&case.expected, &twin.expected);
     let ours = given[0] == a.answer() && given[1] == b.answer();
     let all = [
-        ("the Rust's answers", a.rust == b.rust),
+        // of a row outside the item count the Rust reads what the footprint does not have
+        ("the Rust's answers", a.outside || a.rust == b.rust),
         ("the rules' answers", a.rule == b.rule),
+        ("rows outside the count", a.outside == b.outside),
         ("our answers", given[0] == given[1]),
         ("footprints", case.footprint.parts == twin.footprint.parts),
         ("axes in use", case.footprint.axes == twin.footprint.axes),
@@ -125,6 +130,10 @@ fn differences([case, twin]: &[Side; 2], given: &[String; 2]) -> Vec<&'static st
     ];
     let differ = all.iter().filter(|(_, same)| !same);
     differ.map(|(what, _)| *what).collect()
+}
+
+fn said(case: &Case) -> Answer<Vec<i64>> {
+    case.by_rules(&mut { COUNTED })
 }
 
 /// Whether the rules' answer is another after one of the changes, at the coordinates of one of the
@@ -140,11 +149,11 @@ fn matters<T>(
             coords: list.clone(),
             ..case.clone()
         };
-        let before = case.by_rules();
+        let before = said(&case);
         changes.iter().any(|how| {
             let mut changed = case.clone();
             change(&mut changed, how);
-            changed.by_rules() != before
+            said(&changed) != before
         })
     })
 }
@@ -195,6 +204,8 @@ struct Seen {
     /// by the rules
     refused: bool,
     stops: bool,
+    /// a row outside its subtable's item count
+    outside: bool,
     other_font: bool,
     other_list: bool,
     /// whether a byte and an axis that were tried matter
@@ -204,7 +215,7 @@ struct Seen {
 
 impl Seen {
     fn new([case, twin]: &[Case; 2], side: &Side, random: &mut Random) -> Self {
-        let refused = case.by_rules().is_err();
+        let refused = said(case).is_err();
         let [byte, axis] = match refused {
             true => [None; 2],
             false => needed(case, &side.footprint, random),
@@ -212,6 +223,7 @@ impl Seen {
         Seen {
             refused,
             stops: side.expected.rust == Rust::Stops,
+            outside: side.expected.outside,
             other_font: case.font != twin.font,
             other_list: case.coords != twin.coords,
             byte,
@@ -220,12 +232,13 @@ impl Seen {
     }
 }
 
-const COLUMNS: [&str; 11] = [
+const COLUMNS: [&str; 12] = [
     "cases",
     "equal",
     "differences",
     "refused",
     "Rust stops",
+    "past count",
     "other font",
     "other list",
     "bytes tried",
@@ -246,6 +259,7 @@ impl Row {
             !same,
             seen.refused,
             seen.stops,
+            seen.outside,
             seen.other_font,
             seen.other_list,
             seen.byte.is_some(),

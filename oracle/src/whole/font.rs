@@ -12,6 +12,8 @@ use std::path::{Path, PathBuf};
 pub enum Phase {
     AsItIs,
     Filled,
+    /// filled, and with half of each item count
+    Halved,
     Damaged,
 }
 
@@ -126,7 +128,14 @@ impl Font {
     }
 
     /// Another VVAR and MVAR, bytes behind the font's own, and changes of these, a place and its new bytes in turn.
-    pub fn fill(&mut self, vvar: &str, mvar: &str, behind: &str, changes: &[&str]) -> Wrong<()> {
+    pub fn fill(
+        &mut self,
+        phase: Phase,
+        vvar: &str,
+        mvar: &str,
+        behind: &str,
+        changes: &[&str],
+    ) -> Wrong<()> {
         self.undo();
         for change in changes.chunks(2) {
             let (p, new) = match change {
@@ -140,7 +149,7 @@ impl Font {
         self.vvar = number(vvar)? as u32;
         self.mvar = number(mvar)? as u32;
         self.data.extend(hex(behind)?);
-        self.phase = Phase::Filled;
+        self.phase = phase;
         let more = self.data.len() - self.whole;
         self.done = format!(
             ", filled: VVAR at {}, MVAR at {}, {} bytes more, set {}",
@@ -157,6 +166,7 @@ impl Font {
         let state = match self.phase {
             Phase::AsItIs => "",
             Phase::Filled => ", filled",
+            Phase::Halved => ", filled, item counts halved",
             Phase::Damaged => ", avar damaged",
         };
         format!("{}, face {}{}", self.name, self.face, state)

@@ -2,6 +2,7 @@
 
 use crate::axes::rules::Answer;
 use crate::deciding::{Decided, WHYS};
+use crate::store::rules::{Rows, COUNTED, UNCOUNTED};
 use std::fmt::Debug;
 
 #[derive(Clone, Copy, PartialEq)]
@@ -62,6 +63,8 @@ pub struct Tally {
     pub none: u64,
     /// what the rules say where it stops
     pub stops: u64,
+    /// what they say where a row outside its subtable's item count is met, whatever the Rust does
+    pub outside: u64,
     pub differences: u64,
 }
 
@@ -72,27 +75,30 @@ impl Tally {
         self.decided += other.decided;
         self.none += other.none;
         self.stops += other.stops;
+        self.outside += other.outside;
         self.differences += other.differences;
     }
 
-    pub fn columns(&self) -> [u64; 6] {
+    pub fn columns(&self) -> [u64; COLUMNS.len()] {
         [
             self.cases,
             self.equal,
             self.none,
             self.stops,
             self.decided,
+            self.outside,
             self.differences,
         ]
     }
 }
 
-pub const COLUMNS: [&str; 6] = [
+pub const COLUMNS: [&str; 7] = [
     "cases",
     "equal",
     "None",
     "Rust stops",
     "01 decides",
+    "past count",
     "differences",
 ];
 
@@ -101,6 +107,15 @@ pub const COLUMNS: [&str; 6] = [
 pub struct Counts {
     pub functions: [Tally; FUNCTIONS.len()],
     pub whys: [u64; WHYS.len()],
+}
+
+/// Floats by the rules.
+pub struct Floats {
+    pub floats: Vec<f32>,
+    /// whether a delta on the way is refused by 5
+    pub refused_by_5: bool,
+    /// whether a row outside its subtable's item count is met
+    pub outside: bool,
 }
 
 pub struct Judge {
@@ -242,29 +257,41 @@ impl Judge {
         }
     }
 
-    /// A float, or some. The rules, which also say whether a delta on the way is refused by 5, are asked where
-    /// ours is not the Rust's: there it must have stopped, by that delta, and ours is theirs.
+    /// A float, or some. Ours is what the rules say. So is the Rust's, and where it stops a delta is refused by 5;
+    /// but where a row outside an item count is met it is held to the second model, which does not look at the count.
     pub fn floats(
         &mut self,
         function: Function,
         arguments: impl Fn() -> String,
         rust: Option<&[f32]>,
         ours: &[f32],
-        rule: impl FnOnce() -> (Vec<f32>, bool),
+        rule: impl Fn(Rows) -> Floats,
     ) {
         let tally = &mut self.counts.functions[function as usize];
         tally.cases += 1;
-        if rust.map_or(false, |floats| same(floats, ours)) {
-            tally.equal += 1;
+        let said = rule(COUNTED);
+        let uncounted = match said.outside {
+            true => Some(rule(UNCOUNTED)),
+            false => None,
+        };
+        let theirs = uncounted.as_ref().unwrap_or(&said);
+        let fits = match rust {
+            Some(floats) => !theirs.refused_by_5 && same(floats, &theirs.floats),
+            None => theirs.refused_by_5,
+        };
+        if fits && same(ours, &said.floats) {
+            match rust {
+                _ if said.outside => tally.outside += 1,
+                Some(_) => tally.equal += 1,
+                None => tally.stops += 1,
+            }
             return;
         }
-        let (said, refused_by_5) = rule();
-        if rust.is_none() && refused_by_5 && same(ours, &said) {
-            tally.stops += 1;
-            return;
+        let mut done = rust.map_or("a stop".to_string(), |floats| format!("{:?}", floats));
+        if let Some(theirs) = &uncounted {
+            done += &format!(", without the item count {:?}", theirs.floats);
         }
-        let theirs = rust.map_or("a stop".to_string(), |floats| format!("{:?}", floats));
-        let texts = [format!("{:?}", ours), theirs, format!("{:?}", said)];
+        let texts = [format!("{:?}", ours), done, format!("{:?}", said.floats)];
         self.difference(function, arguments(), texts);
     }
 }

@@ -1,9 +1,9 @@
 //! Measures and glyph metrics.
 
 use crate::font::Font;
-use crate::judge::{Function, Judge};
+use crate::judge::{Floats, Function, Judge};
 use crate::metrics::rules::{self, scale_for, scaled, Measures, Place};
-use crate::store::rules::Map;
+use crate::store::rules::{Map, Rows, COUNTED, UNCOUNTED};
 use crate::suolluvik::{self, GlyphMetrics};
 use crate::text::{self, halves, EMPTY};
 
@@ -30,10 +30,29 @@ struct At {
     coords: Vec<i16>,
     scale: Scale,
     ours: GlyphMetrics,
-    rule_vertical: rules::Vertical,
+    counted: Materialized,
+    uncounted: Materialized,
     rule_scale: f32,
+}
+
+/// The vertical case by one of the two models of the store.
+struct Materialized {
+    vertical: rules::Vertical,
     /// whether a delta of the synthesized case is refused by 5
     refused_by_5: bool,
+    /// whether one of them has a row outside an item count
+    outside: bool,
+}
+
+impl Materialized {
+    fn new(font: &Font, coords: &[i16], vertical: rules::Vertical, rows: Rows) -> Self {
+        let mut place = Place::new(&font.data, coords, rows);
+        Materialized {
+            vertical: place.materialize_vertical(vertical),
+            refused_by_5: place.refused_by_5,
+            outside: place.rows.outside,
+        }
+    }
 }
 
 /// What the lines before have said of the face.
@@ -153,14 +172,10 @@ impl Metrics {
                 (Function::LinearScaleMeasures, factor)
             }
         };
-        let rule = || {
-            let mut place = Place {
-                font: &font.data,
-                coords,
-                refused_by_5: false,
-            };
+        let rule = |rows| {
+            let mut place = Place::new(&font.data, coords, rows);
             let rule = place.materialize(self.measures, font.mvar, self.has_vertical);
-            (scaled(rule, factor).to_vec(), place.refused_by_5)
+            said(scaled(rule, factor).to_vec(), &place)
         };
         let rust = if answer == "stops" {
             None
@@ -187,7 +202,11 @@ impl Metrics {
             || format!("ascent {:?}, descent {:?}", ascent, descent),
             Some(&rust),
             &ours,
-            || (vec![ascent + descent, ascent], false),
+            |_| Floats {
+                floats: vec![ascent + descent, ascent],
+                refused_by_5: false,
+                outside: false,
+            },
         );
         made
     }
@@ -208,18 +227,13 @@ impl Metrics {
             Scale::Ppem(ppem) => (before.scale(ppem), scale_for(ppem, self.units_per_em)),
             Scale::Linear(factor) => (before.linear_scale(factor), factor),
         };
-        let mut place = Place {
-            font: &font.data,
-            coords: &coords,
-            refused_by_5: false,
-        };
-        let rule_vertical = place.materialize_vertical(rule_vertical(self.vertical?));
+        let vertical = rule_vertical(self.vertical?);
         Some(At {
-            refused_by_5: place.refused_by_5,
+            counted: Materialized::new(font, &coords, vertical, COUNTED),
+            uncounted: Materialized::new(font, &coords, vertical, UNCOUNTED),
             coords,
             scale,
             ours,
-            rule_vertical,
             rule_scale,
         })
     }
@@ -246,7 +260,7 @@ impl Metrics {
                 "stops" => None,
                 word => Some([float(word)?]),
             };
-            let rule = || self.rule(font, at, glyph, unvaried, k);
+            let rule = |rows| self.rule(font, at, rows, glyph, unvaried, k);
             let arguments = || {
                 format!(
                     "glyph {}, {:?}, coordinates {:?}, {}",
@@ -262,21 +276,26 @@ impl Metrics {
         Some(())
     }
 
-    /// What the rules say of one of the five, and whether a delta of it is refused by 5.
+    /// What the rules say of one of the five, by one of the two models.
     fn rule(
         &self,
         font: &Font,
         at: &At,
+        rows: Rows,
         glyph: u16,
         unvaried: Unvaried,
         k: usize,
-    ) -> (Vec<f32>, bool) {
-        let mut place = Place {
-            font: &font.data,
-            coords: &at.coords,
-            refused_by_5: at.refused_by_5,
+    ) -> Floats {
+        let horizontal = matches!(GLYPHS[k], Function::AdvanceWidth | Function::Lsb);
+        let made = match rows.counted {
+            true => &at.counted,
+            false => &at.uncounted,
         };
-        let (vertical, scale, y) = (at.rule_vertical, at.rule_scale, unvaried.y);
+        let mut place = Place::new(&font.data, &at.coords, rows);
+        // where that stops no glyph has an answer, whatever is asked for
+        place.refused_by_5 = made.refused_by_5;
+        place.rows.outside = made.outside && !horizontal;
+        let (vertical, scale, y) = (made.vertical, at.rule_scale, unvaried.y);
         let value = match GLYPHS[k] {
             Function::AdvanceWidth => {
                 place.varied(unvaried.width.into(), font.hvar, Map::Advance, glyph, scale)
@@ -291,7 +310,15 @@ impl Metrics {
                 rules::origin(vertical, y, y, self.units_per_em, scale, top)
             }
         };
-        (vec![value], place.refused_by_5)
+        said(vec![value], &place)
+    }
+}
+
+fn said(floats: Vec<f32>, place: &Place) -> Floats {
+    Floats {
+        floats,
+        refused_by_5: place.refused_by_5,
+        outside: place.rows.outside,
     }
 }
 

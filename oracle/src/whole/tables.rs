@@ -8,12 +8,13 @@ use std::collections::BTreeMap;
 use std::fmt::Display;
 
 /// Each state of a font is counted apart.
-const PHASES: [(Phase, &str); 3] = [
+const PHASES: [(Phase, &str); 4] = [
     (Phase::AsItIs, "The fonts as they are"),
     (
         Phase::Filled,
         "The fonts filled: maps of bearings, every tag in MVAR, vertical metrics",
     ),
+    (Phase::Halved, "Filled, and with half of each item count"),
     (Phase::Damaged, "With avar damaged"),
 ];
 

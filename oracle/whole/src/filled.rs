@@ -1,5 +1,5 @@
 //! What no font of a shelf has, so that it is asked for too: a map of bearings, an MVAR with every tag by which a
-//! measure varies, and, with glyf, vertical metrics that vary.
+//! measure varies, with glyf vertical metrics that vary, and rows outside their subtables' item counts.
 
 use crate::face::{offset, place, record, Face};
 use crate::lines::Lines;
@@ -8,7 +8,7 @@ use crate::random::Random;
 use crate::text::bytes_text;
 use swash::FontRef;
 
-/// Fewer than of a font as it is: a face is filled twice.
+/// Fewer than of a font as it is: a face is filled up to three times.
 const PAIRS: usize = metrics::PAIRS / 3;
 
 /// Those by which swash varies a measure, in order.
@@ -44,6 +44,37 @@ fn maps(font: &FontRef) -> Vec<Change> {
     changes
 }
 
+/// Half of each item count of the store at a place: from there on its rows are outside.
+fn halves(data: &[u8], store: usize) -> Vec<Change> {
+    let count = u16_at(data, store + 6).unwrap_or(0);
+    let half = |k: usize| {
+        let p = store + u32_at(data, store + 8 + 4 * k)?;
+        // of one row it is one
+        let half = (u16_at(data, p)? + 1) / 2;
+        Some((p, (half as u16).to_be_bytes().to_vec()))
+    };
+    (0..count).filter_map(half).collect()
+}
+
+/// The same of HVAR's and VVAR's stores.
+fn counts(font: &FontRef) -> Vec<Change> {
+    let tables = [b"HVAR", b"VVAR"].map(|tag| place(font, tag).0);
+    let there = tables.into_iter().filter(|start| *start > 0);
+    there
+        .filter_map(|start| Some(start + u32_at(font.data, start + 4)?))
+        .flat_map(|store| halves(font.data, store))
+        .collect()
+}
+
+fn change(data: &mut [u8], changes: &[Change]) {
+    for (p, new) in changes {
+        data[*p..*p + new.len()].copy_from_slice(new);
+    }
+}
+
+/// Where the store is in an MVAR with all tags.
+const STORE: usize = 12 + 8 * TAGS.len();
+
 /// An MVAR over HVAR's store, or none where that has no row: each tag has a row of the first subtable, another one as
 /// long as there are. The inner index stands first, as swash takes it.
 fn mvar(font: &FontRef) -> Option<Vec<u8>> {
@@ -51,7 +82,7 @@ fn mvar(font: &FontRef) -> Option<Vec<u8>> {
     let table = &font.data[start..start + length];
     let store = table.get(u32_at(table, 4)?..)?;
     let rows = u16_at(store, u32_at(store, 8)?).filter(|rows| *rows > 0)?;
-    let numbers = [1, 0, 0, 8, TAGS.len(), 12 + 8 * TAGS.len()];
+    let numbers = [1, 0, 0, 8, TAGS.len(), STORE];
     let mut mvar: Vec<u8> = numbers.map(|n| (n as u16).to_be_bytes()).concat();
     for (k, tag) in TAGS.iter().enumerate() {
         let inner = (k * rows / TAGS.len()) as u16;
@@ -93,25 +124,26 @@ fn directory(font: &FontRef, tables: &[(&[u8; 4], Place)]) -> Option<Vec<u8>> {
     Some(directory)
 }
 
-/// A copy with a map of bearings, this MVAR and another directory behind it, which may have the tables for vertical
-/// type too.
-fn one(
-    lines: &mut Lines,
-    face: &Face,
-    mvar: &[u8],
+/// What a copy of a font gets.
+struct Filling {
+    /// the name of its line
+    kind: &'static str,
+    changes: Vec<Change>,
+    mvar: Vec<u8>,
+    /// whether it has the tables for vertical type too
     vertical: bool,
-    random: &mut Random,
-) -> Option<()> {
+}
+
+/// A copy with these changes, and with its MVAR and another directory behind it.
+fn one(lines: &mut Lines, face: &Face, filling: Filling, random: &mut Random) -> Option<()> {
+    let Filling { mvar, changes, .. } = filling;
     let mut copy = face.font.data.to_vec();
-    let changes = maps(&face.font);
-    for (p, new) in &changes {
-        copy[*p..*p + new.len()].copy_from_slice(new);
-    }
+    change(&mut copy, &changes);
     let mut place = [0; 12];
     place[4..8].copy_from_slice(&(copy.len() as u32).to_be_bytes());
     place[8..].copy_from_slice(&(mvar.len() as u32).to_be_bytes());
     let mut tables = vec![(b"MVAR", place)];
-    if vertical {
+    if filling.vertical {
         tables.extend(upright(&face.font)?);
     }
     let directory = directory(&face.font, &tables)?;
@@ -126,16 +158,36 @@ fn one(
     for (p, new) in changes {
         words.extend([p.to_string(), bytes_text(new.into_iter())]);
     }
-    lines.put("filled", &words);
+    lines.put(filling.kind, &words);
     metrics::ask(lines, &Face { font, ..*face }, PAIRS, random);
     Some(())
 }
 
 pub fn ask(lines: &mut Lines, face: &Face, random: &mut Random) {
-    let Some(mvar) = mvar(&face.font) else { return };
-    for vertical in [false, true] {
-        let suits = !vertical || (face.has(b"glyf") && !face.has(b"vhea"));
-        if suits && one(lines, face, &mvar, vertical, random).is_none() {
+    let Some(mut mvar) = mvar(&face.font) else {
+        return;
+    };
+    let suits = face.has(b"glyf") && !face.has(b"vhea");
+    let filled = |vertical| Filling {
+        kind: "filled",
+        changes: maps(&face.font),
+        mvar: mvar.clone(),
+        vertical,
+    };
+    let mut fillings = vec![filled(false)];
+    if suits {
+        fillings.push(filled(true));
+    }
+    let of_mvar = halves(&mvar, STORE);
+    change(&mut mvar, &of_mvar);
+    fillings.push(Filling {
+        kind: "halved",
+        changes: [maps(&face.font), counts(&face.font)].concat(),
+        mvar,
+        vertical: suits,
+    });
+    for filling in fillings {
+        if one(lines, face, filling, random).is_none() {
             lines.leave("it is not filled: swash can't open what it becomes");
         }
     }

@@ -1,4 +1,4 @@
--- Small tables, computed by the definitions.
+-- What the item count changed; small tables, computed by the definitions.
 pub mod AxisTable
 pub mod ItemCount
 pub mod DeltaTable

@@ -10,12 +10,11 @@ use Rattle.opentype.specs.Item.{itemDelta}
 use Rattle.opentype.specs.Metric.{bearing, metricDelta, floatOf}
 use Rattle.opentype.specs.Mvar.{mvarDelta}
 use Rattle.opentype.proofs.ItemCount.{uncountedRow, uncountedItem, uncountedDelta}
-use Rattle.opentype.proofs.DeltaTable.{s5-font, one-row}
+use Rattle.opentype.proofs.DeltaTable.{s5-font, two-maps, one-row}
 use Rattle.opentype.proofs.MvarTable.{sorted, hasc, hdsc}
 use Rattle.metrics.proofs.MeasuresTable.{computing-measures}
 use Rattle.examples.proofs.Written.{negative, float}
 use Rattle.examples.proofs.Table.{delta}
-use Rattle.examples.proofs.Store.{two-maps}
 
 -- A font with another byte at p.
 abbrev with-byte : ℕ → ℕ → List ℕ → List ℕ
@@ -33,7 +32,7 @@ pub record Requests : Type 0 where
   -- A row outside the item count is an index that is too large: refusal 3, after 5.
   pub W-201 :
       (coords : List ℤ)
-      -- One row and a byte behind it, 52 bytes: glyph 1 had that byte, 5, as its width; glyph 0 has the row, as before.
+      -- One row and a byte behind it, 52 bytes: glyph 1 had that byte, 5, as its delta; glyph 0 has the row, as before.
       → (run (one-row 0) (uncountedDelta coords 20 0 1) ≡ value (pos 327680))
       × (delta (one-row 0) 1 coords ≡ refused 3)
       × (delta (one-row 0) 65535 coords ≡ refused 3)

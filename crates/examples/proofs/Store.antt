@@ -1,6 +1,6 @@
 -- Deltas as floats, a bearing through its own map, and an opened MVAR on small fonts, computed by the definitions that the contracts cite. Assumes nothing.
 use mathlib.Core.Path.{_≡_, refl}
-use mathlib.Core.List.{List, [], _∷_, _++_}
+use mathlib.Core.List.{[], _∷_}
 use Prim.Native.Nat.{ℕ}
 use lib.IntN.{pos}
 use lib.ListN.{drop}
@@ -11,7 +11,7 @@ use Rattle.opentype.specs.MvarTags.{hasc}
 use Rattle.opentype.specs.MvarDeltas.{Deltas}
 use Rattle.store.specs.MvarDeltasAnswers.{wantedBy}
 use Rattle.store.specs.declared.mvar_deltas.Wanted.the-variants as W
-use Rattle.opentype.proofs.DeltaTable.{mapped, s1-font, s2-font}
+use Rattle.opentype.proofs.DeltaTable.{two-maps, s1-font, s2-font}
 use Rattle.metrics.proofs.MeasuresTable.{computing-measures, mvarFont, default}
 use Rattle.examples.proofs.Written.{float}
 
@@ -30,10 +30,7 @@ pub fraction-kept : floatOf (metricDelta s2-font 4 advance 0 (pos 4096 ∷ [])) 
 unfolding deltas
 fraction-kept = refl
 
--- H1's font with a map for bearings at its end, of one entry: row 2. An advance goes by its own map: row 0.
-abbrev pub two-maps : List ℕ
-two-maps = mapped 0x33 ++ (0 ∷ 7 ∷ 0 ∷ 1 ∷ 2 ∷ [])
-
+-- A bearing goes by its own map, to row 2; an advance by its own: row 0.
 pub each-by-its-own-map :
     (metricDelta two-maps 4 bearing 0 [] ≡ value (pos 786432))
     × (metricDelta two-maps 4 advance 0 [] ≡ value (pos 655360))

@@ -75,6 +75,10 @@ mapped bearings =
 unfoldable pub h1-font : List ℕ
 h1-font = mapped 0
 
+-- The same with a map for bearings at its end, of one entry: row 2. An advance goes by its own map.
+abbrev pub two-maps : List ℕ
+two-maps = mapped 0x33 ++ (0 ∷ 7 ∷ 0 ∷ 1 ∷ 2 ∷ [])
+
 -- S1 at 8192, half way up: refused by no number, and not 0.
 pub half-way-up : metricDelta s1-font 4 advance 0 (pos 8192 ∷ []) ≡ value (pos 3276800)
 unfolding computing s1-font
@@ -144,7 +148,7 @@ pub past-the-count :
 unfolding computing
 past-the-count = (refl, refl, refl)
 
--- The font ends behind the subtable's three counts: the region index, which is cut, is looked at for a row that is there alone.
+-- The font ends behind the subtable's three counts: the region index, which is cut, is read for a row inside the count only.
 pub count-before-indexes : (metricDelta (take 48 (one-row 0)) 4 advance 0 [] ≡ refused 2) × (metricDelta (take 48 (one-row 0)) 4 advance 1 [] ≡ refused 3)
 unfolding computing
 count-before-indexes = (refl, refl)

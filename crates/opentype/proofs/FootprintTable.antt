@@ -10,7 +10,7 @@ use Rattle.readers.specs.Outcome.{value, refused}
 use Rattle.readers.specs.Walk.{each}
 use Rattle.opentype.specs.Metric.{advance, bearing, metricDelta}
 use Rattle.opentype.specs.Footprint.{Part, bytes, triple, covers, uses, partsOf, tripleOf, triples, entryParts, rowParts, itemFootprint, metricFootprint, recordPart, records, mvarParts, mvarFootprint}
-use Rattle.opentype.proofs.DeltaTable.{hvar, s1-font, s3-font, h1-font, one-row}
+use Rattle.opentype.proofs.DeltaTable.{hvar, s1-font, s3-font, h1-font, two-maps, one-row}
 use Rattle.opentype.proofs.MvarTable.{opening, sorted, hasc, xhgt}
 
 infix 70 _to_
@@ -79,6 +79,11 @@ S3-axes axis = go (eqb 0 axis)
 pub H1-covers : covered h1-font (metricFootprint h1-font 4 advance 3) ≡ 8 to 15 ++ 20 to 23 ++ 26 ∷ 30 to 51 ++ 54 ∷ []
 unfolding footing h1-font
 H1-covers = refl
+
+-- Its bearing, by a map of its own at the end, uses that row too.
+pub bearing-covers : covered two-maps (metricFootprint two-maps 4 bearing 0) ≡ 8 to 11 ++ 16 to 19 ++ 30 to 51 ++ 54 to 59
+unfolding footing
+bearing-covers = refl
 
 pub H1-axes : (axis : ℕ) → uses h1-font (metricFootprint h1-font 4 advance 3) axis ≡ false
 unfolding footing h1-font

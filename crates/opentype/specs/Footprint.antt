@@ -84,7 +84,7 @@ entryParts font item k rest = do
 unfoldable pub rowParts : List ℕ → Item → List Part
 rowParts font item = each (entryParts font item) [] (item .row .regionIndexCount) 0
 
--- "Store + 2..+ 7; the subtable's offset; the region list's first four; subtable + 2..+ 5", in the order of their reads; then the row's.
+-- "Store + 2..+ 7; the subtable's offset; the region list's first four; subtable + 2..+ 5", in the order of their reads; W-201: "the footprint gains those two bytes", subtable + 0..+ 1, behind them; then the row's.
 unfoldable pub itemFootprint : List ℕ → ℕ → ℕ → ℕ → List Part
 itemFootprint font store outer inner = do
   item ← partsOf font (itemAt store outer inner)

@@ -79,7 +79,7 @@ fn region_list(font: &[u8], store: u32) -> RegionListAnswer
     })
 }
 
-// The subtable of a row that it has.
+// The subtable of a row, which must be inside its item count (W-201).
 fn item_data(font: &[u8], store: u32, outer: u32, inner: u16) -> ItemDataAnswer
     ensures { λ r. ⌜ rowOutcome inner r ≡ run (now (font .entry)) (rowAt store outer inner) ⌝ }
 {

@@ -1,8 +1,7 @@
 -- The numbers of the change requests of document 02: one table under one proof, a field for each request, computed by the definitions that the contracts cite. Assumes nothing.
 use mathlib.Core.Path.{_≡_, refl}
-use mathlib.Core.List.{List, [], _∷_, _++_}
-use Prim.Native.Nat.{ℕ, _+_}
-use lib.ListN.{take, drop}
+use mathlib.Core.List.{List, [], _∷_}
+use Prim.Native.Nat.{ℕ}
 use lib.IntN.{ℤ, pos}
 use Rattle.readers.specs.Outcome.{value, refused}
 use Rattle.readers.specs.Reading.{run}
@@ -10,15 +9,11 @@ use Rattle.opentype.specs.Item.{itemDelta}
 use Rattle.opentype.specs.Metric.{bearing, metricDelta, floatOf}
 use Rattle.opentype.specs.Mvar.{mvarDelta}
 use Rattle.opentype.proofs.ItemCount.{uncountedRow, uncountedItem, uncountedDelta}
-use Rattle.opentype.proofs.DeltaTable.{s5-font, two-maps, one-row}
+use Rattle.opentype.proofs.DeltaTable.{s5-font, with-byte, two-maps, one-row, two-words}
 use Rattle.opentype.proofs.MvarTable.{sorted, hasc, hdsc}
 use Rattle.metrics.proofs.MeasuresTable.{computing-measures}
 use Rattle.examples.proofs.Written.{negative, float}
 use Rattle.examples.proofs.Table.{delta}
-
--- A font with another byte at p.
-abbrev with-byte : ℕ → ℕ → List ℕ → List ℕ
-with-byte p b font = take p font ++ b ∷ drop (p + 1) font
 
 -- H1's font with a map for bearings, whose one entry leads to row 2. Its subtable, at 44, says that it has two rows of its three.
 abbrev two-of-three : List ℕ
@@ -33,20 +28,19 @@ pub record Requests : Type 0 where
   pub W-201 :
       (coords : List ℤ)
       -- One row and a byte behind it, 52 bytes: glyph 1 had that byte, 5, as its delta; glyph 0 has the row, as before.
-      → (run (one-row 0) (uncountedDelta coords 20 0 1) ≡ value (pos 327680))
-      × (delta (one-row 0) 1 coords ≡ refused 3)
-      × (delta (one-row 0) 65535 coords ≡ refused 3)
-      × (delta (one-row 0) 0 coords ≡ value (pos 6553600))
-      -- The same font, by its store.
-      × (itemDelta (one-row 0) 20 0 1 coords ≡ refused 3)
-      -- As a float: 0.0.
-      × (floatOf (delta (one-row 0) 1 coords) ≡ float 0)
+      → (run one-row (uncountedDelta coords 20 0 1) ≡ value (pos 327680))
+      × (delta one-row 1 coords ≡ refused 3)
+      × (delta one-row 65535 coords ≡ refused 3)
+      × (delta one-row 0 coords ≡ value (pos 6553600))
+      -- The same by its store, and as a float.
+      × (itemDelta one-row 20 0 1 coords ≡ refused 3)
+      × (floatOf (delta one-row 1 coords) ≡ float 0)
       -- A word count that is too large comes first.
-      × (delta (one-row 2) 1 coords ≡ refused 5)
+      × (delta two-words 1 coords ≡ refused 5)
       -- No regions, so that a row has no bytes: there are no more rows for that.
       × (delta s5-font 1 coords ≡ refused 3)
       -- No rows.
-      × (delta (with-byte 43 0 (one-row 0)) 0 coords ≡ refused 3)
+      × (delta (with-byte 43 0 one-row) 0 coords ≡ refused 3)
       -- Through a map, for an advance and for a bearing.
       × (delta two-of-three 1 coords ≡ value (pos 720896))
       × (delta two-of-three 2 coords ≡ refused 3)

@@ -1,8 +1,8 @@
 -- The fonts of document 01's examples S1 to S5 and H1, which stand in one table in the crate `examples`; and examples that tell the definitions from near ones, computed. Assumes nothing.
 use mathlib.Core.Path.{_≡_, refl}
 use mathlib.Core.List.{List, [], _∷_, _++_}
-use Prim.Native.Nat.{ℕ}
-use lib.ListN.{take}
+use Prim.Native.Nat.{ℕ, _+_}
+use lib.ListN.{take, drop}
 use lib.IntN.{pos, negsuc}
 use Rattle.numbers.specs.Numbers.{wrap32, minus, times, over}
 use Rattle.readers.specs.Outcome.{value, refused}
@@ -21,6 +21,10 @@ computing = tt
 -- The fonts: four bytes, an HVAR without maps, whose store stands right behind it, at 20; the region list, and one subtable.
 abbrev pub hvar : List ℕ
 hvar = 0 ∷ 0 ∷ 0 ∷ 0 ∷ 0 ∷ 1 ∷ 0 ∷ 0 ∷ 0 ∷ 0 ∷ 0 ∷ 0x10 ∷ 0 ∷ 0 ∷ 0 ∷ 0 ∷ 0 ∷ 0 ∷ 0 ∷ 0 ∷ []
+
+-- A font with another byte at p.
+abbrev pub with-byte : ℕ → ℕ → List ℕ → List ℕ
+with-byte p b font = take p font ++ b ∷ drop (p + 1) font
 
 -- One axis, one region by the bytes of its triple, one entry.
 abbrev oneRegion : List ℕ → ℕ → List ℕ
@@ -131,24 +135,23 @@ cut-triple = (refl, refl)
 
 -- ---- W-201: a row outside the item count
 
--- A store of one row, 100, and a byte behind it, 5; the region's triple is skipped. The word count is left open.
-abbrev pub one-row : ℕ → List ℕ
-one-row words =
-    hvar
-    ++ (0 ∷ 1 ∷ 0 ∷ 0 ∷ 0 ∷ 0x0c ∷ 0 ∷ 1 ∷ 0 ∷ 0 ∷ 0 ∷ 0x16
-    ∷ 0 ∷ 1 ∷ 0 ∷ 1 ∷ 0 ∷ 0 ∷ 0 ∷ 0 ∷ 0 ∷ 0
-    ∷ 0 ∷ 1 ∷ 0 ∷ words ∷ 0 ∷ 1 ∷ 0 ∷ 0 ∷ 0x64 ∷ 5
-    ∷ [])
+-- One row, 100, and a byte behind it, 5; the triple is skipped. The subtable starts at 42.
+abbrev pub one-row : List ℕ
+one-row = oneRegion (0 ∷ 0 ∷ 0 ∷ 0 ∷ 0 ∷ 0 ∷ []) 0x64 ++ (5 ∷ [])
+
+-- The same with a word count of 2, over its one region index.
+abbrev pub two-words : List ℕ
+two-words = with-byte 45 2 one-row
 
 -- Glyph 0 has the row; glyph 1, at the count, has none. A word count that is too large is refused before the item count is looked at.
 pub past-the-count :
-    (metricDelta (one-row 0) 4 advance 0 [] ≡ value (pos 6553600))
-    × (metricDelta (one-row 0) 4 advance 1 [] ≡ refused 3)
-    × (metricDelta (one-row 2) 4 advance 1 [] ≡ refused 5)
+    (metricDelta one-row 4 advance 0 [] ≡ value (pos 6553600))
+    × (metricDelta one-row 4 advance 1 [] ≡ refused 3)
+    × (metricDelta two-words 4 advance 1 [] ≡ refused 5)
 unfolding computing
 past-the-count = (refl, refl, refl)
 
 -- The font ends behind the subtable's three counts: the region index, which is cut, is read for a row inside the count only.
-pub count-before-indexes : (metricDelta (take 48 (one-row 0)) 4 advance 0 [] ≡ refused 2) × (metricDelta (take 48 (one-row 0)) 4 advance 1 [] ≡ refused 3)
+pub count-before-indexes : (metricDelta (take 48 one-row) 4 advance 0 [] ≡ refused 2) × (metricDelta (take 48 one-row) 4 advance 1 [] ≡ refused 3)
 unfolding computing
 count-before-indexes = (refl, refl)

@@ -10,7 +10,7 @@ use Rattle.readers.specs.Outcome.{value, refused}
 use Rattle.readers.specs.Walk.{each}
 use Rattle.opentype.specs.Metric.{advance, bearing, metricDelta}
 use Rattle.opentype.specs.Footprint.{Part, bytes, triple, covers, uses, partsOf, tripleOf, triples, entryParts, rowParts, itemFootprint, metricFootprint, recordPart, records, mvarParts, mvarFootprint}
-use Rattle.opentype.proofs.DeltaTable.{hvar, s1-font, s3-font, h1-font, two-maps, one-row}
+use Rattle.opentype.proofs.DeltaTable.{hvar, s1-font, s3-font, h1-font, with-byte, two-maps, one-row, two-words}
 use Rattle.opentype.proofs.MvarTable.{opening, sorted, hasc, xhgt}
 
 infix 70 _to_
@@ -136,15 +136,15 @@ no-store-parts = refl
 
 -- S1 whose row names region 1 of one: the triple stands behind a refusal, and is no part.
 abbrev invalid-index : List ℕ
-invalid-index = take 49 s1-font ++ 1 ∷ drop 50 s1-font
+invalid-index = with-byte 49 1 s1-font
 
 pub invalid-index-covers : covered invalid-index (metricFootprint invalid-index 4 advance 0) ≡ 8 to 15 ++ 22 to 35 ++ 42 to 49
 unfolding footing s1-font
 invalid-index-covers = refl
 
--- W-201's one row, whose subtable is at 42, asked for a second: the item count is the last part, and the region index, at 48, is none. Where the word count is too large the item count is no part either.
-pub past-the-count-covers : (covered (one-row 0) (metricFootprint (one-row 0) 4 advance 1) ≡ 8 to 15 ++ 22 to 35 ++ 42 to 47)
-    × (covered (one-row 2) (metricFootprint (one-row 2) 4 advance 1) ≡ 8 to 15 ++ 22 to 35 ++ 44 to 47)
+-- One row, asked for a second: the item count, at 42, is the last part, and the region index, at 48, is none. Where the word count is too large the item count is no part either.
+pub past-the-count-covers : (covered one-row (metricFootprint one-row 4 advance 1) ≡ 8 to 15 ++ 22 to 35 ++ 42 to 47)
+    × (covered two-words (metricFootprint two-words 4 advance 1) ≡ 8 to 15 ++ 22 to 35 ++ 44 to 47)
 unfolding footing
 past-the-count-covers = (refl, refl)
 

@@ -8,9 +8,10 @@ use Rattle.readers.specs.Reading.{run}
 use Rattle.opentype.specs.Item.{itemDelta}
 use Rattle.opentype.specs.Metric.{bearing, metricDelta, floatOf}
 use Rattle.opentype.specs.Mvar.{mvarDelta}
+use Rattle.opentype.specs.MvarTags.{hasc, hdsc}
 use Rattle.opentype.proofs.ItemCount.{uncountedRow, uncountedItem, uncountedDelta}
 use Rattle.opentype.proofs.DeltaTable.{s5-font, with-byte, two-maps, one-row, two-words}
-use Rattle.opentype.proofs.MvarTable.{sorted, hasc, hdsc}
+use Rattle.opentype.proofs.MvarTable.{sorted}
 use Rattle.metrics.proofs.MeasuresTable.{computing-measures}
 use Rattle.examples.proofs.Written.{negative, float}
 use Rattle.examples.proofs.Table.{delta}

@@ -54,7 +54,7 @@ half = pos 0x2000 ∷ []
 abbrev pub hasc : ℕ
 hasc = 0x6861_7363
 
-abbrev pub hdsc : ℕ
+abbrev hdsc : ℕ
 hdsc = 0x6864_7363
 
 abbrev pub xhgt : ℕ

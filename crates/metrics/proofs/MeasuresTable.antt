@@ -7,14 +7,15 @@ use lib.IntN.{ℤ, pos, negsuc}
 use lib.ListN.{drop}
 use lib.Ieee.{Float, fin, nan, inf, binary32, ofBits, add, mul, div, ofInt, eq}
 use Rattle.numbers.specs.Floats.{toFloat}
-use Rattle.opentype.specs.Mvar.{headerAt, indexIn, searchIn, find, tagDelta, mvarDelta}
+use Rattle.readers.specs.Search.{searchIn, searched}
+use Rattle.opentype.specs.Mvar.{headerAt, indexIn, find, tagDelta, mvarDelta}
 use Rattle.opentype.proofs.DeltaTable.{computing}
 use Rattle.metrics.specs.Scale.{float, scaleFor}
 use Rattle.metrics.specs.Measures.{Metrics, varies, materializedMetrics, linearScaled, scaledMetrics}
 
 -- What every example of measures unfolds; `eq`, so that a definition that tests a delta for 0.0 computes too.
 unfoldable pub computing-measures : Unit {0}
-unfolding computing headerAt indexIn searchIn find tagDelta mvarDelta varies toFloat ofBits add mul div ofInt eq
+unfolding computing headerAt indexIn searchIn searched find tagDelta mvarDelta varies toFloat ofBits add mul div ofInt eq
 computing-measures = tt
 
 -- Two bytes, and an MVAR of some of eleven records. Its store has no axes and one region, so that it varies at all coordinates: by 1 for the first tag up to 11 for the last.

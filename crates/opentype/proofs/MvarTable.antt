@@ -4,12 +4,13 @@ use mathlib.Core.Path.{_≡_, refl}
 use mathlib.Core.List.{List, [], _∷_, _++_}
 use lib.IntN.{ℤ, pos, negsuc}
 use Rattle.readers.specs.Outcome.{value, refused}
-use Rattle.opentype.specs.Mvar.{headerAt, indexIn, searchIn, find, tagDelta, mvarDelta}
+use Rattle.readers.specs.Search.{searchIn, searched}
+use Rattle.opentype.specs.Mvar.{headerAt, indexIn, find, tagDelta, mvarDelta}
 use Rattle.opentype.proofs.DeltaTable.{computing}
 
 -- What an example unfolds beside what those of the store do.
 unfoldable pub opening : Unit {0}
-unfolding computing headerAt indexIn searchIn find tagDelta mvarDelta
+unfolding computing headerAt indexIn searchIn searched find tagDelta mvarDelta
 opening = tt
 
 -- The header: records of 8 bytes, two of them, the store at 28.

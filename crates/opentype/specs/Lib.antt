@@ -1,4 +1,4 @@
--- fvar, avar and coordinate lists; the item variation store, HVAR and VVAR, MVAR; the footprint of a delta, over which demand 3 is stated.
+-- fvar, avar and coordinate lists; the item variation store, HVAR and VVAR, MVAR; hmtx and vmtx, VORG; the footprint of a delta, over which demand 3 is stated.
 pub mod Axis
 pub mod Avar
 pub mod Fvar
@@ -10,4 +10,6 @@ pub mod Metric
 pub mod Mvar
 pub mod MvarTags
 pub mod MvarDeltas
+pub mod Xmtx
+pub mod Vorg
 pub mod Footprint

@@ -1,14 +1,15 @@
 -- MVAR: opened, searched, and the delta of a tag (OpenType, MVAR; document 01, "HVAR, VVAR, MVAR"). All positions count from the table's start: it is
 -- read as the part of the font from there.
-use Prim.Native.Nat.{ℕ, zero, suc, _+_, _*_, _/_}
-use mathlib.Core.Bool.{cond, not, _||_}
+use Prim.Native.Nat.{ℕ, _+_, _*_}
+use mathlib.Core.Bool.{not, _||_}
 use mathlib.Core.List.{List, []}
 use lib.ListN.{drop}
-use lib.Dec.{ltb, eqb}
+use lib.Dec.{eqb}
 use lib.IntN.{ℤ}
 use lib.Ieee.{Float}
 use Rattle.readers.specs.Outcome.{Outcome, value, onward}
 use Rattle.readers.specs.Reading.{Reading, answer, refuse, _>>=_, _>>_, check, unsignedAt, run}
+use Rattle.readers.specs.Search.{Records, Sought, searched}
 use Rattle.opentype.specs.Item.{deltaIn}
 use Rattle.opentype.specs.Metric.{DeltaSetIndex, floatOf}
 
@@ -38,20 +39,15 @@ indexIn p = do
   outer ← unsignedAt 2 (p + 6)
   answer (record { outer = outer; inner = inner })
 
--- The halving search from l up to h, with at most k turns left: where the record of a tag starts. Unsorted records answer as it goes. Each turn leaves at least one record less between l
--- and h, so that as many turns as there are records are enough.
-unfoldable pub searchIn : ℕ → ℕ → ℕ → ℕ → ℕ → Reading ℕ
-searchIn size tag zero l h = refuse 4
-searchIn size tag (suc k) l h = do
-  check (ltb l h) 4
-  let i = (l + h) / 2
-  valueTag ← unsignedAt 4 (recordStart size i)
-  cond (ltb tag valueTag) (searchIn size tag k l i)
-      (cond (ltb valueTag tag) (searchIn size tag k (i + 1) h)
-      (answer (recordStart size i)))
+-- The search for a tag, which answers where its record starts: 4 where there is none.
+abbrev pub valueRecords : ℕ → Records
+valueRecords valueRecordSize = record { keySize = 4; start = recordStart valueRecordSize }
+
+abbrev pub byTag : Sought ℕ
+byTag = record { found = answer; missing = refuse 4 }
 
 unfoldable pub find : Header → ℕ → Reading ℕ
-find header tag = searchIn (header .valueRecordSize) tag (header .valueRecordCount) 0 (header .valueRecordCount)
+find header tag = searched (valueRecords (header .valueRecordSize)) byTag tag (header .valueRecordCount)
 
 -- The delta of a tag, once the header is known.
 unfoldable pub tagDelta : Header → List ℤ → ℕ → Reading ℤ

@@ -7,3 +7,4 @@ pub mod Lent
 pub mod One
 pub mod Passed
 pub mod TwoFonts
+pub mod Search

@@ -36,9 +36,9 @@ module _ {A : Type 0} (f g : List ℕ) where
   test-same true n r s h = h refl
   test-same false n r s h = refl
 
-  pub choice-same : (t : Bool) (r s u v : Reading A) → run f r ≡ run g s → run f u ≡ run g v → run f (cond t r u) ≡ run g (cond t s v)
-  choice-same true r s u v p q = p
-  choice-same false r s u v p q = q
+  pub choice-same : (t : Bool) (r s u v : Reading A) → (t ≡ true → run f r ≡ run g s) → (t ≡ false → run f u ≡ run g v) → run f (cond t r u) ≡ run g (cond t s v)
+  choice-same true r s u v p q = p refl
+  choice-same false r s u v p q = q refl
 
   pub answer-same : (a : A) → run f (answer a) ≡ run g (answer a)
   unfolding run

@@ -2,5 +2,6 @@
 pub mod Outcome
 pub mod Reading
 pub mod Walk
+pub mod Search
 pub mod Lent
 pub mod Answers

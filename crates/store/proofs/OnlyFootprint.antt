@@ -11,13 +11,14 @@ use borrow.Author.Tests.{ltb-true, ltb-false}
 use Rattle.readers.specs.Outcome.{Outcome, value, refused}
 use Rattle.readers.specs.Reading.{Reading, unsignedAt, run, _>>=_}
 use Rattle.readers.specs.Walk.{each}
-use Rattle.readers.proofs.TwoFonts.{then-same, read-same, test-same, choice-same, answer-same, refuse-same}
+use Rattle.readers.specs.Search.{searchIn, searched}
+use Rattle.readers.proofs.TwoFonts.{then-same, read-same, answer-same, refuse-same}
+use Rattle.readers.proofs.Search.{found-record, search-same}
 use Rattle.opentype.specs.Item.{Item, itemAt, itemSum, deltaIn, itemDelta}
 use Rattle.opentype.specs.Metric.{Measure, storeOf, deltaSetIndexAt, metricDelta, floatOf}
-use Rattle.opentype.specs.Mvar.{Header, headerAt, recordStart, indexIn, searchIn, find, tagDelta, mvarDelta}
+use Rattle.opentype.specs.Mvar.{Header, headerAt, recordStart, valueRecords, byTag, indexIn, find, tagDelta, mvarDelta}
 use Rattle.opentype.specs.Footprint.{Part, bytes, triple, uses, rowParts, itemFootprint, metricFootprint, recordPart, records, found, mvarParts, moved, mvarFootprint, EqualOver, EqualOn, HangsOn}
 use Rattle.store.proofs.Triples.{triple-same}
-use Rattle.store.proofs.Search.{found-record}
 use Rattle.store.proofs.Moved.{over-moved, uses-moved}
 use Rattle.store.proofs.SameParts.{Alike, Same, later, here, each-alike, past-each, bind-same, scalar-same, row-same}
 
@@ -90,24 +91,17 @@ module _ (f g : List ℕ) (c d : List ℤ) (len : length f ≡ length g) (record
   unfolding recordPart
   record-alike i rest = rw len
 
-  -- The search reads tags of records alone.
-  search-same : (tag count : ℕ) → ((i : ℕ) → i < count → InRecord f g recordSize i) → (k l h : ℕ) → h ≤ count → run f (searchIn recordSize tag k l h) ≡ run g (searchIn recordSize tag k l h)
-  unfolding searchIn unsignedAt
-  search-same tag count at zero l h b = refuse-same f g 4
-  search-same tag count at (suc k) l h b = test-same f g (ltb l h) 4 _ _ λ t.
-      let i : ℕ = (l + h) / 2 in
-      let low : i < count = omega (arith, ltb-true l h t) in
-      read-same f g 4 (recordStart recordSize i) _ _ len (λ w j a x. at i low j a (omega arith) (omega arith)) λ valueTag.
-      choice-same f g (ltb tag valueTag) _ _ _ _ (search-same tag count at k l i (omega arith))
-      (choice-same f g (ltb valueTag tag) _ _ _ _ (search-same tag count at k (i + 1) h b)
-      (answer-same f g _))
-
-  -- So it finds the same record, and its indices are the same.
   module _ (tag count : ℕ) (at : (i : ℕ) → i < count → InRecord f g recordSize i) where
-    index-same : (p : ℕ) → run f (searchIn recordSize tag count 0 count) ≡ value p → run f (indexIn p) ≡ run g (indexIn p)
+    -- The search reads tags of records alone.
+    tag-search-same : run f (searchIn (valueRecords recordSize) byTag tag count 0 count) ≡ run g (searchIn (valueRecords recordSize) byTag tag count 0 count)
+    tag-search-same = search-same f g len (valueRecords recordSize) byTag tag count (λ i low w j a x. at i low j a (omega arith) (omega arith)) (λ i low. answer-same f g _) (refuse-same f g 4) count 0 count
+        (omega arith)
+
+    -- So it finds the same record, and its indices are the same.
+    index-same : (p : ℕ) → run f (searchIn (valueRecords recordSize) byTag tag count 0 count) ≡ value p → run f (indexIn p) ≡ run g (indexIn p)
     unfolding indexIn unsignedAt
     index-same p e =
-        let (i, low, start) = found-record f recordSize tag count 0 count p e in
+        let (i, low, start) = found-record f (valueRecords recordSize) 4 tag count 0 count p e in
         read-same f g 2 (p + 4) _ _ len (λ w j a x. at i low j (omega arith) (omega arith) (omega arith)) λ inner.
         read-same f g 2 (p + 6) _ _ len (λ w j a x. at i low j (omega arith) (omega arith) (omega arith)) λ outer.
         answer-same f g _
@@ -130,12 +124,12 @@ module _ (f g : List ℕ) (c d : List ℤ) (len : length f ≡ length g) (tag : 
   tag-same : (header : Header) → Same f g c d (tagDelta header c tag) (tagDelta header d tag)
       (records f header (found (run f (find header tag)) λ p. found (run f (indexIn p)) λ index. itemFootprint f (header .itemVariationStoreOffset) (index .outer) (index .inner)))
       (records g header (found (run g (find header tag)) λ p. found (run g (indexIn p)) λ index. itemFootprint g (header .itemVariationStoreOffset) (index .outer) (index .inner)))
-  unfolding Same records find tagDelta
+  unfolding Same records find searched tagDelta
   tag-same header alike =
       let size : ℕ = header .valueRecordSize in
       let count : ℕ = header .valueRecordCount in
       let at : (i : ℕ) → i < count → InRecord f g size i = λ i low. record-here f g c d len size _ count 0 i alike (omega arith) (omega arith) in
-      let same = then-found f g c d (find header tag) _ _ _ _ (search-same f g c d len size tag count at count 0 count (omega arith))
+      let same = then-found f g c d (find header tag) _ _ _ _ (tag-search-same f g c d len size tag count at)
       λ p v. then-found f g c d (indexIn p) _ _ _ _ (index-same f g c d len size tag count at p v)
       λ index w. delta-same f g c d len (header .itemVariationStoreOffset) (index .outer) (index .inner) in
       let (e, parts) = same (past-each f g c d (recordPart f size) (past-record f g c d len size) _ count 0 alike) in

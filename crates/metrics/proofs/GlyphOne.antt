@@ -11,6 +11,7 @@ use Rattle.metrics.specs.declared.vertical.Vertical.the-variants as W
 use Rattle.metrics.specs.declared.glyph.GlyphMetrics.{GlyphMetrics}
 use Rattle.metrics.proofs.vertical.Vertical.synthesize.Reads as synthesize
 use Rattle.metrics.proofs.glyph.materialize_glyph_metrics.Reads as materialize-glyph-metrics
+use Rattle.metrics.proofs.glyph.varied.Reads as varied
 use Rattle.metrics.proofs.glyph.GlyphMetrics.has_vertical_metrics.Reads as has-vertical-metrics
 use Rattle.metrics.proofs.glyph.GlyphMetrics.has_variations.Reads as has-variations
 use Rattle.metrics.proofs.glyph.GlyphMetrics.scale.Reads as scale
@@ -19,6 +20,7 @@ use Rattle.metrics.proofs.glyph.GlyphMetrics.advance_width.Reads as adv
 use Rattle.metrics.proofs.glyph.GlyphMetrics.lsb.Reads as lsb
 use Rattle.metrics.proofs.glyph.GlyphMetrics.advance_height.Reads as advance-height
 use Rattle.metrics.proofs.glyph.GlyphMetrics.tsb.Reads as tsb
+use Rattle.metrics.proofs.glyph.GlyphMetrics.upright.Reads as upright
 use Rattle.metrics.proofs.glyph.GlyphMetrics.vertical_origin.Reads as vertical-origin
 
 -- The enum of some vertical metrics, the struct of some glyph metrics.
@@ -91,6 +93,12 @@ advance-height-one κs a r r′ s s′ p q = p ∙ sym q
 
 pub tsb-one : One tsb.Post
 tsb-one κs a r r′ s s′ p q = p ∙ sym q
+
+pub upright-one : One upright.Post
+upright-one κs a r r′ s s′ p q = p ∙ sym q
+
+pub varied-one : One varied.Post
+varied-one κs a r r′ s s′ p q = p ∙ sym q
 
 pub vertical-origin-one : One vertical-origin.Post
 vertical-origin-one κs a r r′ s s′ p q = p ∙ sym q

@@ -110,8 +110,8 @@ impl GlyphMetrics {
         self.upright(font, Measure::Bearing, glyph_id, coords, unvaried as f32)
     }
 
-    // An advance height or a top side bearing.
-    fn upright(
+    // An advance height or a top side bearing, from the unvaried one as a float.
+    pub fn upright(
         self,
         font: &[u8],
         measure: Measure,
@@ -204,8 +204,8 @@ fn adjusted(unvaried: f32, delta: f32, scale: f32) -> f32
     (unvaried + delta) * scale
 }
 
-// An advance or a side bearing by the HVAR or VVAR at an offset.
-fn varied(
+// An advance or a side bearing by the HVAR or VVAR at an offset, from the unvaried one as a float.
+pub fn varied(
     font: &[u8],
     xvar: u32,
     measure: Measure,

@@ -4,6 +4,7 @@ pub mod Scalars
 pub mod SameParts
 pub mod Moved
 pub mod OnlyFootprint
+pub mod Joined
 pub mod Entries
 pub mod Places
 pub mod Search

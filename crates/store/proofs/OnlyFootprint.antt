@@ -41,7 +41,7 @@ module _ (f g : List ℕ) (c d : List ℤ) (len : length f ≡ length g) where
   uses-same (triple p a ∷ parts) alike axis = rw (triple-same f g p len (λ w. here alike), uses-same parts (later alike) axis)
 
   -- What is concluded of two readings that are the same on parts.
-  conclude : (r s : Reading ℤ) (ps qs : List Part) → Same f g c d r s ps qs → EqualOver ps f g → EqualOn (uses f ps) c d
+  pub conclude : {A : Type 0} (r s : Reading A) (ps qs : List Part) → Same f g c d r s ps qs → EqualOver ps f g → EqualOn (uses f ps) c d
       → (run f r ≡ run g s) × (ps ≡ qs) × ((axis : ℕ) → uses f ps axis ≡ uses g qs axis)
   unfolding Same
   conclude r s ps qs same over on =

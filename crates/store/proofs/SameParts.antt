@@ -28,7 +28,7 @@ unfolding each
 each-alike t u same rest zero i = refl
 each-alike t u same rest (suc k) i = same i (each t rest k (i + 1)) ∙ ap (u i) (each-alike t u same rest k (i + 1))
 
-or-right : (a b : Bool) → b ≡ true → (a || b) ≡ true
+pub or-right : (a b : Bool) → b ≡ true → (a || b) ≡ true
 or-right true b e = refl
 or-right false b e = e
 

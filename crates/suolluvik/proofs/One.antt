@@ -27,6 +27,11 @@ use Rattle.suolluvik.proofs.glyph.suolluvik_vertical_origin.Reads as ve
 use Rattle.suolluvik.proofs.glyph.suolluvik_materialize_glyph_metrics.Reads as materialize-glyph-metrics
 use Rattle.suolluvik.proofs.glyph.suolluvik_scale_glyph_metrics.Reads as scale-glyph-metrics
 use Rattle.suolluvik.proofs.glyph.suolluvik_synthesize.Reads as synthesize
+use Rattle.suolluvik.proofs.tables.suolluvik_xmtx_advance.Reads as xmtx-advance
+use Rattle.suolluvik.proofs.tables.suolluvik_xmtx_sb.Reads as xmtx-sb
+use Rattle.suolluvik.proofs.tables.suolluvik_vorg_origin.Reads as vorg-origin
+use Rattle.suolluvik.proofs.tables.suolluvik_adjusted_advance.Reads as adjusted-advance
+use Rattle.suolluvik.proofs.tables.suolluvik_adjusted_sb.Reads as adjusted-sb
 use Rattle.suolluvik.proofs.version.suolluvik_version.Reads as version
 
 pub advance-delta-fixed-one : OneSeen advance-delta-fixed.Post (λ r s. r and s .1 .1 .1 .1 .0 .now)
@@ -91,6 +96,21 @@ lsb-one κs a r r′ s s′ p q = p ∙ sym q
 
 pub scale-glyph-metrics-one : One scale-glyph-metrics.Post
 scale-glyph-metrics-one κs a r r′ s s′ p q = p ∙ sym q
+
+pub xmtx-advance-one : OneSeen xmtx-advance.Post (λ r s. r and s .1 .1 .1 .1 .0 .now)
+xmtx-advance-one κs a r r′ s s′ p q = p ∙ sym q
+
+pub xmtx-sb-one : OneSeen xmtx-sb.Post (λ r s. r and s .1 .1 .1 .1 .0 .now)
+xmtx-sb-one κs a r r′ s s′ p q = p ∙ sym q
+
+pub vorg-origin-one : OneSeen vorg-origin.Post (λ r s. r and s .1 .1 .1 .0 .now)
+vorg-origin-one κs a r r′ s s′ p q = p ∙ sym q
+
+pub adjusted-advance-one : OneSeen adjusted-advance.Post (λ r s. r and s .1 .1 .1 .1 .1 .1 .1 .0 .now)
+adjusted-advance-one κs a r r′ s s′ p q = p ∙ sym q
+
+pub adjusted-sb-one : OneSeen adjusted-sb.Post (λ r s. r and s .1 .1 .1 .1 .1 .1 .1 .0 .now)
+adjusted-sb-one κs a r r′ s s′ p q = p ∙ sym q
 
 pub version-one : One version.Post
 version-one κs a r r′ s s′ p q = p ∙ sym q

@@ -6,4 +6,5 @@ pub mod deltas;
 pub mod fvar;
 pub mod glyph;
 pub mod measures;
+pub mod tables;
 pub mod version;

@@ -1,0 +1,1 @@
+-- Small fonts, computed by the definitions that the contracts cite. Assumes nothing.

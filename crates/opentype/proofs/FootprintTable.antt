@@ -15,7 +15,7 @@ use Rattle.opentype.proofs.MvarTable.{opening, sorted, hasc, xhgt}
 
 infix 70 _to_
 -- What an example unfolds beside what those of deltas do.
-footing : Unit {0}
+unfoldable pub footing : Unit {0}
 unfolding opening covers uses partsOf each tripleOf triples entryParts rowParts itemFootprint metricFootprint recordPart records mvarParts mvarFootprint
 footing = tt
 
@@ -28,14 +28,14 @@ abbrev coveredFrom : List Part → ℕ → ℕ → List ℕ
 coveredFrom parts zero j = []
 coveredFrom parts (suc n) j = onlyIf (covers parts j) j (coveredFrom parts n (j + 1))
 
-abbrev covered : List ℕ → List Part → List ℕ
+abbrev pub covered : List ℕ → List Part → List ℕ
 covered font parts = coveredFrom parts (length font) 0
 
 abbrev counting : ℕ → ℕ → List ℕ
 counting j zero = []
 counting j (suc n) = j ∷ counting (j + 1) n
 
-abbrev _to_ : ℕ → ℕ → List ℕ
+abbrev pub _to_ : ℕ → ℕ → List ℕ
 _to_ first last = counting first (suc last - first)
 
 -- ---- S1, S3, H1

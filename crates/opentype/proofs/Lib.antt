@@ -3,4 +3,5 @@ pub mod AxisTable
 pub mod ItemCount
 pub mod DeltaTable
 pub mod MvarTable
+pub mod XmtxTable
 pub mod FootprintTable

@@ -1,18 +1,27 @@
 -- The numbers of the change requests of document 02: one table under one proof, a field for each request, computed by the definitions that the contracts cite. Assumes nothing.
 use mathlib.Core.Path.{_≡_, refl}
-use mathlib.Core.List.{List, [], _∷_}
+use mathlib.Core.List.{List, [], _∷_, _++_}
 use Prim.Native.Nat.{ℕ}
+use lib.ListN.{take}
 use lib.IntN.{ℤ, pos}
+use lib.Ieee.{Float}
 use Rattle.readers.specs.Outcome.{value, refused}
 use Rattle.readers.specs.Reading.{run}
 use Rattle.opentype.specs.Item.{itemDelta}
-use Rattle.opentype.specs.Metric.{bearing, metricDelta, floatOf}
+use Rattle.opentype.specs.Metric.{advance, bearing, metricDelta, floatOf}
 use Rattle.opentype.specs.Mvar.{mvarDelta}
 use Rattle.opentype.specs.MvarTags.{hasc, hdsc}
+use Rattle.opentype.specs.Xmtx.{advanceAt, sbAt}
+use Rattle.opentype.specs.Vorg.{originAt}
+use Rattle.opentype.specs.Footprint.{bytes, metricFootprint}
 use Rattle.opentype.proofs.ItemCount.{uncountedRow, uncountedItem, uncountedDelta}
 use Rattle.opentype.proofs.DeltaTable.{s5-font, with-byte, two-maps, one-row, two-words}
 use Rattle.opentype.proofs.MvarTable.{sorted}
+use Rattle.opentype.proofs.FootprintTable.{footing}
+use Rattle.opentype.proofs.XmtxTable.{origins}
 use Rattle.metrics.proofs.MeasuresTable.{computing-measures}
+use Rattle.widths.specs.Adjusted.{adjustedAt, adjustedFootprint}
+use Rattle.widths.proofs.Table.{reading, s1-hmtx}
 use Rattle.examples.proofs.Written.{negative, float}
 use Rattle.examples.proofs.Table.{delta}
 
@@ -23,6 +32,10 @@ two-of-three = with-byte 45 2 two-maps
 -- An MVAR at 2; its first subtable, at 56, says that it has one row of its two.
 abbrev one-of-two : List ℕ
 one-of-two = with-byte 57 1 sorted
+
+-- 2.0
+abbrev two : Float
+two = float 0x4000_0000
 
 pub record Requests : Type 0 where
   -- A row outside the item count is an index that is too large: refusal 3, after 5.
@@ -51,8 +64,40 @@ pub record Requests : Type 0 where
       × (mvarDelta one-of-two 2 hdsc (pos 16384 ∷ []) ≡ value (negative 6553600))
       × (mvarDelta (with-byte 67 0 sorted) 2 hdsc coords ≡ refused 3)
 
+  -- Widths from the font: hmtx or vmtx, VORG, and the adjusted width from one call. s1-hmtx is S1's font, with HVAR at 4, and behind it, at 51, an hmtx: two long records, 500 with -10 and 65535 with 20, then the bearings 30 and
+  -- -40. origins has a VORG at 2: the default 880, and records of the glyphs 5, 7 and 9.
+  pub W-202 :
+      -- "A glyph past the long records has the last advance"; the bearings alone begin with the first such glyph.
+      (run s1-hmtx (advanceAt 51 2 0) ≡ value 500)
+      × (run s1-hmtx (advanceAt 51 2 1) ≡ value 65535)
+      × (run s1-hmtx (advanceAt 51 2 2) ≡ value 65535)
+      × (run s1-hmtx (sbAt 51 2 1) ≡ value (pos 20))
+      × (run s1-hmtx (sbAt 51 2 2) ≡ value (pos 30))
+      × (run s1-hmtx (sbAt 51 2 3) ≡ value (negative 40))
+      -- "5 for no long records .., first; 1 for an offset of 0; then 2."
+      × (run s1-hmtx (advanceAt 0 0 0) ≡ refused 5)
+      × (run s1-hmtx (sbAt 0 0 0) ≡ refused 5)
+      × (run s1-hmtx (advanceAt 0 2 0) ≡ refused 1)
+      × (run s1-hmtx (sbAt 51 2 4) ≡ refused 2)
+      -- VORG: found, not found, cut; no table.
+      × (run origins (originAt 2 5) ≡ value (pos 10))
+      × (run origins (originAt 2 6) ≡ value (pos 880))
+      × (run (take 18 origins) (originAt 2 9) ≡ refused 2)
+      × (run origins (originAt 0 5) ≡ refused 1)
+      -- "The adjusted width then comes from one call": S1 half way up, (500 + 50)·2; at the default 500·2; glyph 1, whose delta is refused, 65535·2; no HVAR. The refusals are the advance's.
+      × (adjustedAt s1-hmtx advance 51 2 4 0 (pos 8192 ∷ []) two ≡ value (float 0x4489_8000))
+      × (adjustedAt s1-hmtx advance 51 2 4 0 [] two ≡ value (float 0x447a_0000))
+      × (adjustedAt s1-hmtx advance 51 2 4 1 (pos 8192 ∷ []) two ≡ value (float 0x47ff_ff00))
+      × (adjustedAt s1-hmtx advance 51 2 0 0 (pos 8192 ∷ []) two ≡ value (float 0x447a_0000))
+      × (adjustedAt s1-hmtx advance 0 0 4 0 (pos 8192 ∷ []) two ≡ refused 5)
+      × (adjustedAt s1-hmtx advance 0 2 4 0 (pos 8192 ∷ []) two ≡ refused 1)
+      × (adjustedAt (take 52 s1-hmtx) advance 51 2 4 0 (pos 8192 ∷ []) two ≡ refused 2)
+      -- "Its footprint being the delta's and the two bytes of the advance used."
+      × (adjustedFootprint s1-hmtx advance 51 2 4 0 ≡ metricFootprint s1-hmtx 4 advance 0 ++ bytes 51 2 ∷ [])
+
 pub requests : Requests
-unfolding computing-measures s5-font itemDelta uncountedRow uncountedItem uncountedDelta
+unfolding computing-measures s5-font itemDelta uncountedRow uncountedItem uncountedDelta reading footing adjustedFootprint
 requests = record {
   W-201 = λ coords. (refl, refl, refl, refl, refl, refl, refl, refl, refl, refl, refl, refl, refl, refl, refl);
+  W-202 = (refl, refl, refl, refl, refl, refl, refl, refl, refl, refl, refl, refl, refl, refl, refl, refl, refl, refl, refl, refl, refl, refl);
 }

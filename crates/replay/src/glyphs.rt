@@ -29,7 +29,7 @@ enum Unvaried {
 }
 
 // A y coordinate by a word of a case, if it says one or that it is missing.
-enum Given {
+pub(crate) enum Given {
     Value(Ordinate),
     Not,
 }
@@ -107,7 +107,12 @@ fn scaled_for(line: &[u8]) -> Answer {
     )
 }
 
-fn of_parts(units_per_em: u16, hvar: u32, has_vvar: bool, vertical: Vertical) -> GlyphMetrics {
+pub(crate) fn of_parts(
+    units_per_em: u16,
+    hvar: u32,
+    has_vvar: bool,
+    vertical: Vertical,
+) -> GlyphMetrics {
     GlyphMetrics {
         units_per_em,
         glyph_count: 0,
@@ -246,7 +251,12 @@ fn for_name(name: usize, text: &[u8]) -> Unvaried {
     for_vertical(text, 0)
 }
 
-fn scaled<'a>(m: GlyphMetrics, font: &'a [u8], coords: &'a [i16], scale: u32) -> GlyphMetrics {
+pub(crate) fn scaled<'a>(
+    m: GlyphMetrics,
+    font: &'a [u8],
+    coords: &'a [i16],
+    scale: u32,
+) -> GlyphMetrics {
     glyph::materialize_glyph_metrics(m, font, coords).linear_scale(parse::float(scale))
 }
 
@@ -316,7 +326,7 @@ fn vertical_origin(
 }
 
 // A number, or a minus for none.
-fn ordinate(text: &[u8]) -> Given {
+pub(crate) fn ordinate(text: &[u8]) -> Given {
     if same(text, b"-") {
         return Given::Value(Ordinate::Missing);
     }

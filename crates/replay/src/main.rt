@@ -9,6 +9,7 @@ mod glyphs;
 mod measures;
 mod parse;
 mod print;
+mod tables;
 mod words;
 
 use libc::STDIN_FILENO;
@@ -49,8 +50,15 @@ fn answer_measures(line: &[u8], out: &mut Buffer, waiting: usize) -> usize {
 
 fn answer_glyph(line: &[u8], out: &mut Buffer, waiting: usize) -> usize {
     match glyphs::of_line(line) {
-        glyphs::Answer::NoCase => fvar::put_line(line, out, waiting),
+        glyphs::Answer::NoCase => answer_tables(line, out, waiting),
         a => glyphs::put(a, out, waiting),
+    }
+}
+
+fn answer_tables(line: &[u8], out: &mut Buffer, waiting: usize) -> usize {
+    match tables::of_line(line) {
+        tables::Answer::NoCase => fvar::put_line(line, out, waiting),
+        a => tables::put(a, out, waiting),
     }
 }
 

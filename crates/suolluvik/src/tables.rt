@@ -120,15 +120,7 @@ pub extern "C" fn suolluvik_adjusted_advance(
 ) -> u8
     ensures { λ r. ⌜ (r, now (value .exit)) ≡ numbered zero (adjustedAt (now (font .entry)) advanceOf xmtx «long_metric_count» xvar «glyph_id» (now (coords .entry)) scale) ⌝ }
 {
-    let answer = adjusted_advance(
-        font,
-        xmtx,
-        long_metric_count,
-        xvar,
-        glyph_id,
-        coords,
-        scale,
-    );
+    let answer = adjusted_advance(font, xmtx, long_metric_count, xvar, glyph_id, coords, scale);
     measure_value(answer, value)
 }
 
@@ -146,14 +138,6 @@ pub extern "C" fn suolluvik_adjusted_sb(
 ) -> u8
     ensures { λ r. ⌜ (r, now (value .exit)) ≡ numbered zero (adjustedAt (now (font .entry)) bearing xmtx «long_metric_count» xvar «glyph_id» (now (coords .entry)) scale) ⌝ }
 {
-    let answer = adjusted_sb(
-        font,
-        xmtx,
-        long_metric_count,
-        xvar,
-        glyph_id,
-        coords,
-        scale,
-    );
+    let answer = adjusted_sb(font, xmtx, long_metric_count, xvar, glyph_id, coords, scale);
     measure_value(answer, value)
 }

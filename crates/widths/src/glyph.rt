@@ -87,20 +87,19 @@ fn upright(
 }
 
 // What vmtx has of a measure. Of what is synthesized nothing is read, and nothing is refused.
-fn unvaried_upright(
-    vertical: Vertical,
-    font: &[u8],
-    measure: Measure,
-    glyph_id: u16,
-) -> FloatAnswer
+fn unvaried_upright(vertical: Vertical, font: &[u8], measure: Measure, glyph_id: u16) -> FloatAnswer
     ensures { λ r. ⌜ outcomeF32 r ≡ run (now (font .entry)) (unvariedUpright (measureOf measure) «glyph_id» (verticalOf vertical)) ⌝ }
 {
     match vertical {
         Vertical::VmtxGlyf {
-            long_count, vmtx, ..
+            long_count,
+            vmtx,
+            ..
         } => unvaried(font, measure, vmtx, long_count, glyph_id),
         Vertical::VmtxVorg {
-            long_count, vmtx, ..
+            long_count,
+            vmtx,
+            ..
         } => unvaried(font, measure, vmtx, long_count, glyph_id),
         Vertical::Synthesized { .. } => FloatAnswer::Value(0.0),
     }
@@ -122,9 +121,14 @@ pub fn vertical_origin(
         Signed::Refused(n) => return FloatAnswer::Refused(n),
     };
     match origin_for(v, font, glyph_id) {
-        OrdinateAnswer::Value(origin) => FloatAnswer::Value(
-            m.vertical_origin(font, glyph_id, coords, unvaried, y_max, origin),
-        ),
+        OrdinateAnswer::Value(origin) => FloatAnswer::Value(m.vertical_origin(
+            font,
+            glyph_id,
+            coords,
+            unvaried,
+            y_max,
+            origin,
+        )),
         OrdinateAnswer::Refused(n) => FloatAnswer::Refused(n),
     }
 }
@@ -135,7 +139,9 @@ fn bearing_for(vertical: Vertical, font: &[u8], glyph_id: u16, y_max: Ordinate) 
 {
     match vertical {
         Vertical::VmtxGlyf {
-            long_count, vmtx, ..
+            long_count,
+            vmtx,
+            ..
         } => match y_max {
             Ordinate::Known(_) => xmtx::sb(font, vmtx, long_count, glyph_id),
             Ordinate::Missing => Signed::Value(0),

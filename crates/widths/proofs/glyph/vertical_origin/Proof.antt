@@ -38,13 +38,13 @@ enum-known-n-2 c = search needs
 
 returns-2 : tie.Need-returns-2
 unfolding readVerticalOrigin
-returns-2 c = 
+returns-2 c =
     onward-by outcomeI16 _ _ _ (c .before .before .before .before .before .before .before .before .bearing-for .ensures) (c .before .before .before .before .before .before .x .given .1) refl
     (onward-by ordinateOutcome _ _ _ (c .before .before .before .before .origin-for .ensures) (c .before .before .origin .given .1) refl (ap value (rw (toZ-ofZ w16 _ (record { sfits = c .before .before .before .before .before .known-told .given .0 .1 })) at (c .vertical-origin .ensures))))
 
 returns-3 : tie.Need-returns-3
 unfolding readVerticalOrigin
-returns-3 c = 
+returns-3 c =
     onward-by outcomeI16 _ _ _ (c .before .before .before .before .before .before .before .bearing-for .ensures) (c .before .before .before .before .before .x .given .1) refl
     (halt-by ordinateOutcome _ _ (c .before .before .before .origin-for .ensures) (c .before .n2 .given .1) refl)
 

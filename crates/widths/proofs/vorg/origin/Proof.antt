@@ -42,7 +42,7 @@ enum-known-n-2 c = search needs
 
 returns-3 : tie.Need-returns-3
 unfolding originAt
-returns-3 c = 
+returns-3 c =
     passed _ _ _ _ _ (rw (ne-eqb _ _ (c .before .before .before .before .before .before .before .before .if1 .left)))
     (tookI16 _ _ _ _ (c .before .before .before .before .before .before .before .i16-at .ensures) (c .before .before .before .before .before .y .given .1)
     (stop16 _ _ _ (c .before .before .before .u16-at .ensures) (c .before .n2 .given .1)))
@@ -52,7 +52,7 @@ find-requires c κs = search needs
 
 returns-4 : tie.Need-returns-4
 unfolding originAt
-returns-4 c = 
+returns-4 c =
     passed _ _ _ _ _ (rw (ne-eqb _ _ (c .before .before .before .before .before .before .before .before .before .if1 .left)))
     (tookI16 _ _ _ _ (c .before .before .before .before .before .before .before .before .i16-at .ensures) (c .before .before .before .before .before .before .y .given .1)
     (took16 _ _ _ _ (c .before .before .before .before .u16-at .ensures) (c .before .before .x .given .1)

@@ -7,7 +7,7 @@ use lib.IntN.{ℤ, pos, negsuc}
 use lib.ListN.{drop}
 use lib.Ieee.{Float, fin, nan, inf, binary32, ofBits, add, mul, div, ofInt, eq}
 use Rattle.numbers.specs.Floats.{toFloat}
-use Rattle.readers.specs.Search.{searchIn, searched}
+use Rattle.opentype.specs.Search.{searchIn, searched}
 use Rattle.opentype.specs.Mvar.{headerAt, indexIn, find, tagDelta, mvarDelta}
 use Rattle.opentype.proofs.DeltaTable.{computing}
 use Rattle.metrics.specs.Scale.{float, scaleFor}

@@ -4,7 +4,7 @@ use mathlib.Core.Path.{_≡_, refl}
 use mathlib.Core.List.{List, [], _∷_, _++_}
 use lib.IntN.{ℤ, pos, negsuc}
 use Rattle.readers.specs.Outcome.{value, refused}
-use Rattle.readers.specs.Search.{searchIn, searched}
+use Rattle.opentype.specs.Search.{searchIn, searched}
 use Rattle.opentype.specs.Mvar.{headerAt, indexIn, find, tagDelta, mvarDelta}
 use Rattle.opentype.proofs.DeltaTable.{computing}
 

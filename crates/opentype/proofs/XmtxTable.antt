@@ -6,7 +6,7 @@ use lib.ListN.{take}
 use lib.IntN.{ℤ, pos, negsuc}
 use Rattle.readers.specs.Outcome.{value, refused}
 use Rattle.readers.specs.Reading.{unsignedAt, signedAt, bigEndian, run}
-use Rattle.readers.specs.Search.{searchIn, searched}
+use Rattle.opentype.specs.Search.{searchIn, searched}
 use Rattle.opentype.specs.Xmtx.{advanceAt, sbAt}
 use Rattle.opentype.specs.Vorg.{originAt}
 use Rattle.opentype.specs.Footprint.{bytes, partsOf}

@@ -7,6 +7,7 @@ pub mod Variation
 pub mod Region
 pub mod Item
 pub mod Metric
+pub mod Search
 pub mod Mvar
 pub mod MvarTags
 pub mod MvarDeltas

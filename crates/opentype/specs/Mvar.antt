@@ -9,7 +9,7 @@ use lib.IntN.{ℤ}
 use lib.Ieee.{Float}
 use Rattle.readers.specs.Outcome.{Outcome, value, onward}
 use Rattle.readers.specs.Reading.{Reading, answer, refuse, _>>=_, _>>_, check, unsignedAt, run}
-use Rattle.readers.specs.Search.{Records, Sought, searched}
+use Rattle.opentype.specs.Search.{Records, Sought, searched}
 use Rattle.opentype.specs.Item.{deltaIn}
 use Rattle.opentype.specs.Metric.{DeltaSetIndex, floatOf}
 

@@ -5,7 +5,7 @@ use lib.Dec.{eqb}
 use lib.IntN.{ℤ}
 use mir.Syntax.{w16}
 use Rattle.readers.specs.Reading.{Reading, answer, _>>=_, _>>_, check, unsignedAt, signedAt}
-use Rattle.readers.specs.Search.{Records, Sought, searched}
+use Rattle.opentype.specs.Search.{Records, Sought, searched}
 
 -- The records of a VORG at an offset: a glyph id, then the origin of that glyph.
 abbrev pub vertOriginYMetrics : ℕ → Records

@@ -7,4 +7,3 @@ pub mod Lent
 pub mod One
 pub mod Passed
 pub mod TwoFonts
-pub mod Search

@@ -2,6 +2,5 @@
 pub mod Outcome
 pub mod Reading
 pub mod Walk
-pub mod Search
 pub mod Lent
 pub mod Answers

@@ -11,9 +11,9 @@ use borrow.Author.Tests.{ltb-true, ltb-false}
 use Rattle.readers.specs.Outcome.{Outcome, value, refused}
 use Rattle.readers.specs.Reading.{Reading, unsignedAt, run, _>>=_}
 use Rattle.readers.specs.Walk.{each}
-use Rattle.readers.specs.Search.{searchIn, searched}
+use Rattle.opentype.specs.Search.{searchIn, searched}
 use Rattle.readers.proofs.TwoFonts.{then-same, read-same, answer-same, refuse-same}
-use Rattle.readers.proofs.Search.{found-record, search-same}
+use Rattle.opentype.proofs.Search.{found-record, search-same}
 use Rattle.opentype.specs.Item.{Item, itemAt, itemSum, deltaIn, itemDelta}
 use Rattle.opentype.specs.Metric.{Measure, storeOf, deltaSetIndexAt, metricDelta, floatOf}
 use Rattle.opentype.specs.Mvar.{Header, headerAt, recordStart, valueRecords, byTag, indexIn, find, tagDelta, mvarDelta}

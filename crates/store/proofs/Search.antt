@@ -7,8 +7,8 @@ use native.Mathlib.Omega.{arith}
 use mir.Syntax.{w64}
 use mir.Val.{Fits}
 use Rattle.readers.specs.Reading.{run}
-use Rattle.readers.specs.Search.{searched}
-use Rattle.readers.proofs.Search.{found-record}
+use Rattle.opentype.specs.Search.{searched}
+use Rattle.opentype.proofs.Search.{found-record}
 use Rattle.opentype.specs.Mvar.{recordStart, valueRecords, find}
 use Rattle.store.specs.MvarAnswers.{headerOf, foundOutcome}
 use Rattle.store.specs.declared.mvar.Found.{Found}

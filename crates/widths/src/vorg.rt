@@ -8,7 +8,7 @@ ghost use mathlib.Core.Path.{_≡_};
 ghost use Prim.Native.Nat.{_^_, _<_};
 ghost use lib.IntN.{ℤ};
 ghost use Rattle.readers.specs.Reading.{run};
-ghost use Rattle.readers.specs.Search.{searched};
+ghost use Rattle.opentype.specs.Search.{searched};
 ghost use Rattle.readers.specs.Answers.{outcomeI16};
 ghost use Rattle.opentype.specs.Vorg.{vertOriginYMetrics, vertOriginY, originAt};
 

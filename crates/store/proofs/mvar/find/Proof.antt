@@ -5,9 +5,9 @@ use native.Mathlib.Omega.{arith}
 use borrow.Author.Needs.{needs}
 use borrow.Author.Tests.{lt-ltb, le-ltb}
 use Rattle.readers.specs.Reading.{run}
-use Rattle.readers.specs.Search.{searchIn, searched}
+use Rattle.opentype.specs.Search.{searchIn, searched}
 use Rattle.readers.proofs.Reading.{took32, stop32, answered, declined, chosen, otherwise}
-use Rattle.readers.proofs.Search.{search-turned, search-missed}
+use Rattle.opentype.proofs.Search.{search-turned, search-missed}
 use Rattle.opentype.specs.Mvar.{valueRecords, byTag, find as sought}
 use Rattle.store.specs.MvarAnswers.{headerOf}
 use Rattle.store.proofs.Search.{product-fits, start-fits}

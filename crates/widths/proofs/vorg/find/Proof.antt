@@ -8,9 +8,9 @@ use lib.IntN.{ℤ}
 use mir.Syntax.{w16}
 use mir.ValLaws.{toZ-ofZ}
 use Rattle.readers.specs.Reading.{run}
-use Rattle.readers.specs.Search.{searchIn, searched}
+use Rattle.opentype.specs.Search.{searchIn, searched}
 use Rattle.readers.proofs.Reading.{took16, stop16, answered, chosen, otherwise}
-use Rattle.readers.proofs.Search.{search-turned, search-missed}
+use Rattle.opentype.proofs.Search.{search-turned, search-missed}
 use Rattle.opentype.specs.Vorg.{vertOriginYMetrics, vertOriginY}
 use Rattle.widths.proofs.vorg.find.Statement.{statement}
 use Rattle.widths.proofs.vorg.find.Tie as tie

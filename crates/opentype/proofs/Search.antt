@@ -7,13 +7,13 @@ use native.Mathlib.Omega.{arith}
 use borrow.Author.Tests.{le-leb, lt-leb, leb-false}
 use lib.Dec.{leb, ltb}
 use lib.ListN.{length}
 use Rattle.readers.specs.Outcome.{Outcome, value}
 use Rattle.readers.specs.Reading.{Reading, answer, refuse, _>>=_, bigEndian, unsignedAt, run}
-use Rattle.readers.specs.Search.{Records, Sought, searchIn}
+use Rattle.opentype.specs.Search.{Records, Sought, searchIn}
 use Rattle.readers.proofs.Bytes.{SameBytes}
 use Rattle.readers.proofs.Passed.{bytes-there, answer-is}
 use Rattle.readers.proofs.Reading.{declined}
 use Rattle.readers.proofs.TwoFonts.{read-same, choice-same}
 
 -- What the search does with the key x of record i.
 abbrev pub step : {A : Type 0} → Records → Sought A → ℕ → ℕ → ℕ → ℕ → ℕ → ℕ → Reading A

@@ -101,6 +101,15 @@ fn glyphs(t: &mut Test) {
     }
 }
 
+fn numbers(t: &mut Test) {
+    t.refused("xmtx_advance", xmtx_advance(&[], 4, 1, 0));
+    t.refused("xmtx_sb", xmtx_sb(&[], 4, 1, 0));
+    t.refused("vorg_origin", vorg_origin(&[], 4, 0));
+    let found = adjusted_advance(&[], 4, 1, 4, 0, &[], 2.);
+    t.refused("adjusted_advance", found);
+    t.refused("adjusted_sb", adjusted_sb(&[], 4, 1, 4, 0, &[], 2.));
+}
+
 fn main() -> ExitCode {
     let mut t = Test::default();
     t.check("version", version() == VERSION + 1, version());
@@ -108,6 +117,7 @@ fn main() -> ExitCode {
     axes(&mut t);
     measures(&mut t);
     glyphs(&mut t);
+    numbers(&mut t);
     println!("{} passed, {} failed", t.passed, t.failed);
     ExitCode::from((t.failed != 0) as u8)
 }

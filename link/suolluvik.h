@@ -17,9 +17,10 @@
  * alone. Coordinates are normalised, in 2.14; a missing one is 0. A 16.16 number is written as its raw integer. A tag is the
  * number that its four letters make, the first one highest: wght is 0x77676874.
  *
- * The answers are swash's, also where OpenType says something else, but for avar maps that OpenType does not allow;
- * docs/DIFFERENCES.md has each such place. Two are met in many fonts: an instance's PostScript name id is not the one that
- * OpenType means, and of MVAR's records most are refused. */
+ * The answers are swash's, also where OpenType says something else, but for avar maps that OpenType does not allow, for rows
+ * past a subtable's item count, and for what can't be read of hmtx, vmtx and VORG, which is refused, where swash has 0 or
+ * the units per em; docs/DIFFERENCES.md has each such place. Two are met in many fonts: an instance's PostScript name id is
+ * not the one that OpenType means, and of MVAR's records most are refused. */
 #ifndef SUOLLUVIK_H
 #define SUOLLUVIK_H
 
@@ -34,13 +35,13 @@ extern "C" {
 /* The version of this header, and that of the library. It rises by one when a function, a refusal or a size of the record
  * of measures is added; nothing is taken away. A library whose version is lower than the header's is older than it, and
  * has not all that the header says. */
-#define SUOLLUVIK_VERSION 1
+#define SUOLLUVIK_VERSION 2
 uint32_t suolluvik_version(void);
 
 /* A later library may answer other numbers too: they are refusals like these. */
 enum suolluvik_refusal {
     SUOLLUVIK_OK = 0,
-    /* an offset of HVAR, VVAR, of the store or of a bearing map is 0, or an MVAR has no records */
+    /* an offset of HVAR, VVAR, hmtx, vmtx, VORG, of the store or of a bearing map is 0, or an MVAR has no records */
     SUOLLUVIK_ABSENT = 1,
     /* a read reaches past the end */
     SUOLLUVIK_SHORT = 2,
@@ -48,8 +49,8 @@ enum suolluvik_refusal {
     SUOLLUVIK_INDEX = 3,
     /* a tag is not found */
     SUOLLUVIK_TAG = 4,
-    /* a map count of 0, more words than region indices, an offset of 2^32 or more, an instance size of 0 or 1, a value
-     * that can't be normalised */
+    /* a map count of 0, no long records, more words than region indices, an offset of 2^32 or more, an instance size of 0
+     * or 1, a value that can't be normalised */
     SUOLLUVIK_ARITHMETIC = 5,
     /* tags and values differ in number */
     SUOLLUVIK_LENGTHS = 6,
@@ -144,8 +145,9 @@ uint8_t suolluvik_materialize_metrics(const uint8_t *font, size_t font_len, uint
 uint8_t suolluvik_scale_metrics(uint16_t units_per_em, float ppem, suolluvik_metrics *measures, size_t measures_len);
 uint8_t suolluvik_linear_scale_metrics(float scale, suolluvik_metrics *measures, size_t measures_len);
 
-/* A glyph's metrics are (unvaried + delta) * scale, where a refused delta is 0. `unvaried` is what hmtx or vmtx has. The
- * scale is any float; this is the one for pixels per em (1 where there are no units per em). */
+/* A glyph's metrics are (unvaried + delta) * scale, where a refused delta is 0. `unvaried` is what hmtx or vmtx has, as
+ * suolluvik_xmtx_advance and suolluvik_xmtx_sb read it. The scale is any float; this is the one for pixels per em (1 where
+ * there are no units per em). */
 float suolluvik_scale_glyph_metrics(uint16_t units_per_em, float ppem);
 
 /* The advance width and the left side bearing of a glyph, by the HVAR at the offset hvar. */
@@ -182,6 +184,29 @@ uint8_t suolluvik_vertical_origin(const uint8_t *font, size_t font_len, uint16_t
                                   uint32_t vvar, float synthesized, uint16_t glyph_id, const int16_t *coords,
                                   size_t coords_len, int16_t unvaried, bool has_y, int16_t y, float scale,
                                   float *value);
+
+/* The unvaried advance of a glyph, and its left or top bearing, by the hmtx or vmtx at the offset xmtx. long_metric_count is
+ * hhea's or vhea's: so many long records, an advance and a bearing each, and behind them bearings alone; a glyph past the
+ * long records has the last one's advance. A count of 0 is refused by 5, else an offset of 0 by 1, else a read past the
+ * font's end by 2; where the table ends is not asked. */
+uint8_t suolluvik_xmtx_advance(const uint8_t *font, size_t font_len, uint32_t xmtx, uint16_t long_metric_count,
+                               uint16_t glyph_id, uint16_t *value);
+uint8_t suolluvik_xmtx_sb(const uint8_t *font, size_t font_len, uint32_t xmtx, uint16_t long_metric_count,
+                          uint16_t glyph_id, int16_t *value);
+
+/* The y of a glyph's vertical origin, unvaried, by the VORG at the offset vorg: that of its record, or the default where none
+ * is found; they are searched by halving. An offset of 0 is refused by 1, else a read past the font's end by 2. */
+uint8_t suolluvik_vorg_origin(const uint8_t *font, size_t font_len, uint32_t vorg, uint16_t glyph_id, int16_t *value);
+
+/* The advance of a glyph at some coordinates, and its bearing, in one call: (unvaried + delta) * scale with the unvaried one
+ * of hmtx or vmtx, and with the delta by the HVAR or VVAR at the offset xvar, 0 for none. Refused by 5, 1 and 2 as the unvaried
+ * one is; a refused delta is 0. */
+uint8_t suolluvik_adjusted_advance(const uint8_t *font, size_t font_len, uint32_t xmtx, uint16_t long_metric_count,
+                                   uint32_t xvar, uint16_t glyph_id, const int16_t *coords, size_t coords_len,
+                                   float scale, float *value);
+uint8_t suolluvik_adjusted_sb(const uint8_t *font, size_t font_len, uint32_t xmtx, uint16_t long_metric_count,
+                              uint32_t xvar, uint16_t glyph_id, const int16_t *coords, size_t coords_len, float scale,
+                              float *value);
 
 #ifdef __cplusplus
 }

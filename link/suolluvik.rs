@@ -11,8 +11,9 @@
 //!
 //! The thread's float environment rounds to nearest and flushes nothing to zero, as a Rust program's does.
 //!
-//! The answers are swash's, also where OpenType says something else, but for avar maps that OpenType does not allow;
-//! `docs/DIFFERENCES.md` has each such place.
+//! The answers are swash's, also where OpenType says something else, but for avar maps that OpenType does not allow, for rows
+//! past a subtable's item count, and for what can't be read of hmtx, vmtx and VORG, which is refused, where swash has 0 or the
+//! units per em; `docs/DIFFERENCES.md` has each such place.
 
 // `tests/prototypes` holds these to the library's source.
 mod exports {
@@ -236,12 +237,59 @@ mod exports {
             scale: f32,
             value: *mut f32,
         ) -> u8;
+        pub fn suolluvik_xmtx_advance(
+            font: *const u8,
+            font_len: usize,
+            xmtx: u32,
+            long_metric_count: u16,
+            glyph_id: u16,
+            value: *mut u16,
+        ) -> u8;
+        pub fn suolluvik_xmtx_sb(
+            font: *const u8,
+            font_len: usize,
+            xmtx: u32,
+            long_metric_count: u16,
+            glyph_id: u16,
+            value: *mut i16,
+        ) -> u8;
+        pub fn suolluvik_vorg_origin(
+            font: *const u8,
+            font_len: usize,
+            vorg: u32,
+            glyph_id: u16,
+            value: *mut i16,
+        ) -> u8;
+        pub fn suolluvik_adjusted_advance(
+            font: *const u8,
+            font_len: usize,
+            xmtx: u32,
+            long_metric_count: u16,
+            xvar: u32,
+            glyph_id: u16,
+            coords: *const i16,
+            coords_len: usize,
+            scale: f32,
+            value: *mut f32,
+        ) -> u8;
+        pub fn suolluvik_adjusted_sb(
+            font: *const u8,
+            font_len: usize,
+            xmtx: u32,
+            long_metric_count: u16,
+            xvar: u32,
+            glyph_id: u16,
+            coords: *const i16,
+            coords_len: usize,
+            scale: f32,
+            value: *mut f32,
+        ) -> u8;
     }
 }
 
 /// The version of the interface that is wrapped here. It rises by one when a function, a refusal or a size of the record of
 /// measures is added; nothing is taken away.
-pub const VERSION: u32 = 1;
+pub const VERSION: u32 = 2;
 
 /// The version of the library that is linked. Where it is lower than [`VERSION`] the library is older than this file.
 pub fn version() -> u32 {
@@ -252,7 +300,7 @@ pub fn version() -> u32 {
 #[derive(Copy, Clone, PartialEq, Eq, Debug)]
 #[non_exhaustive]
 pub enum Refusal {
-    /// An offset of HVAR, VVAR, of the store or of a bearing map is 0, or an MVAR has no records.
+    /// An offset of HVAR, VVAR, hmtx, vmtx, VORG, of the store or of a bearing map is 0, or an MVAR has no records.
     Absent,
     /// A read reaches past the end.
     Short,
@@ -260,8 +308,8 @@ pub enum Refusal {
     Index,
     /// A tag is not found.
     Tag,
-    /// A map count of 0, more words than region indices, an offset of 2^32 or more, an instance size of 0 or 1, a value that
-    /// can't be normalised.
+    /// A map count of 0, no long records, more words than region indices, an offset of 2^32 or more, an instance size of 0 or
+    /// 1, a value that can't be normalised.
     Arithmetic,
     /// Tags and values differ in number.
     Lengths,
@@ -680,7 +728,8 @@ impl Vertical {
 }
 
 /// What is the same for all glyphs of a font. `hvar` is an offset in the font, 0 for none; a scale of 1 is font units. Each
-/// call is lent the font and the coordinates, and given the glyph's unvaried numbers.
+/// call is lent the font and the coordinates, and given the glyph's unvaried numbers, as [`xmtx_advance`], [`xmtx_sb`] and
+/// [`vorg_origin`] read them.
 ///
 /// A refused delta is 0, as in swash. The library can refuse nothing else here but the number of a vertical case, and of these
 /// [`Vertical`] has only its own; so the vertical functions refuse nothing today, and answer a `Result` for the sake of a
@@ -858,4 +907,117 @@ impl GlyphMetrics {
         };
         answer(number, value)
     }
+}
+
+/// The unvaried advance of a glyph, by the hmtx or vmtx at the offset xmtx. `long_metric_count` is hhea's or vhea's: so many
+/// long records, an advance and a bearing each, and behind them bearings alone; a glyph past the long records has the last one's
+/// advance. A count of 0 is [`Refusal::Arithmetic`], else an offset of 0 is [`Refusal::Absent`], else a read past the font's end
+/// is [`Refusal::Short`]; where the table ends is not asked.
+pub fn xmtx_advance(
+    font: &[u8],
+    xmtx: u32,
+    long_metric_count: u16,
+    glyph_id: u16,
+) -> Result<u16, Refusal> {
+    let mut value = 0;
+    let number = unsafe {
+        exports::suolluvik_xmtx_advance(
+            font.as_ptr(),
+            font.len(),
+            xmtx,
+            long_metric_count,
+            glyph_id,
+            &mut value,
+        )
+    };
+    answer(number, value)
+}
+
+/// The unvaried left or top bearing of a glyph, in the same way.
+pub fn xmtx_sb(
+    font: &[u8],
+    xmtx: u32,
+    long_metric_count: u16,
+    glyph_id: u16,
+) -> Result<i16, Refusal> {
+    let mut value = 0;
+    let number = unsafe {
+        exports::suolluvik_xmtx_sb(
+            font.as_ptr(),
+            font.len(),
+            xmtx,
+            long_metric_count,
+            glyph_id,
+            &mut value,
+        )
+    };
+    answer(number, value)
+}
+
+/// The y of a glyph's vertical origin, unvaried, by the VORG at the offset vorg: that of its record, or the default where none
+/// is found; they are searched by halving. An offset of 0 is [`Refusal::Absent`], else a read past the font's end is
+/// [`Refusal::Short`].
+pub fn vorg_origin(font: &[u8], vorg: u32, glyph_id: u16) -> Result<i16, Refusal> {
+    let mut value = 0;
+    let number = unsafe {
+        exports::suolluvik_vorg_origin(font.as_ptr(), font.len(), vorg, glyph_id, &mut value)
+    };
+    answer(number, value)
+}
+
+/// The advance of a glyph at some coordinates, in one call: that of [`xmtx_advance`], and its delta by the HVAR or VVAR at the
+/// offset xvar, 0 for none, times the scale; a scale of 1 is font units. Refused as the unvaried one is; a refused delta is 0.
+pub fn adjusted_advance(
+    font: &[u8],
+    xmtx: u32,
+    long_metric_count: u16,
+    xvar: u32,
+    glyph_id: u16,
+    coords: &[i16],
+    scale: f32,
+) -> Result<f32, Refusal> {
+    let mut value = 0.;
+    let number = unsafe {
+        exports::suolluvik_adjusted_advance(
+            font.as_ptr(),
+            font.len(),
+            xmtx,
+            long_metric_count,
+            xvar,
+            glyph_id,
+            coords.as_ptr(),
+            coords.len(),
+            scale,
+            &mut value,
+        )
+    };
+    answer(number, value)
+}
+
+/// The left or top bearing of a glyph at some coordinates, in the same way: that of [`xmtx_sb`], and its delta.
+pub fn adjusted_sb(
+    font: &[u8],
+    xmtx: u32,
+    long_metric_count: u16,
+    xvar: u32,
+    glyph_id: u16,
+    coords: &[i16],
+    scale: f32,
+) -> Result<f32, Refusal> {
+    let mut value = 0.;
+    let number = unsafe {
+        exports::suolluvik_adjusted_sb(
+            font.as_ptr(),
+            font.len(),
+            xmtx,
+            long_metric_count,
+            xvar,
+            glyph_id,
+            coords.as_ptr(),
+            coords.len(),
+            scale,
+            &mut value,
+        )
+    };
+    answer(number, value)
 }

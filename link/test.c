@@ -642,6 +642,193 @@ static void try_vertical(void)
     check(advance == -1000.75f && origin == -800.5f, "synthesize", "-800.5 and -200.25");
 }
 
+/* What hmtx, vmtx and VORG have, and the adjusted advance and bearing. */
+
+/* S1; an hmtx at 52 with three long records, of 500 and -20, 40000 and 5, 300 and 32767, and with two bearings behind them,
+ * -32768 and 17; and a VORG at 68, by default 880, with the glyphs 1, 3 and 40000, at 76, 80 and 84. */
+#define HMTX "01f4 ffec 9c40 0005 012c 7fff 8000 0011"
+#define VORG_TABLE(count, records) "00010000 0370" count records
+#define NUMBERS S1 "00" HMTX VORG_TABLE("0003", "0001 ff88 0003 02bc 9c40 8000")
+#define UNSORTED S1 "00" HMTX VORG_TABLE("0003", "0005 ff88 0003 02bc 0001 8000")
+#define NO_RECORDS S1 "00" HMTX VORG_TABLE("0000", "")
+enum { WHOLE = 88 };
+
+/* The font is cut to some bytes. */
+static void try_xmtx_advance(const char *name, size_t len, uint32_t xmtx, uint16_t count, uint16_t glyph, uint8_t number,
+                             uint16_t expected)
+{
+    struct bytes font = bytes(NUMBERS);
+    uint16_t value = 12345;
+    uint8_t found = suolluvik_xmtx_advance(font.at, len, xmtx, count, glyph, &value);
+    check(found == number && value == expected, "xmtx_advance", name);
+}
+
+static void try_xmtx_sb(const char *name, size_t len, uint32_t xmtx, uint16_t count, uint16_t glyph, uint8_t number,
+                        int16_t expected)
+{
+    struct bytes font = bytes(NUMBERS);
+    int16_t value = 12345;
+    uint8_t found = suolluvik_xmtx_sb(font.at, len, xmtx, count, glyph, &value);
+    check(found == number && value == expected, "xmtx_sb", name);
+}
+
+static void try_xmtx(void)
+{
+    try_xmtx_advance("the first one", WHOLE, 52, 3, 0, 0, 500);
+    try_xmtx_advance("above 32767", WHOLE, 52, 3, 1, 0, 40000);
+    try_xmtx_advance("the last long record", WHOLE, 52, 3, 2, 0, 300);
+    try_xmtx_advance("past the long records", WHOLE, 52, 3, 3, 0, 300);
+    try_xmtx_advance("glyph 65535", WHOLE, 52, 3, 65535, 0, 300);
+    try_xmtx_advance("glyph 256", WHOLE, 52, 3, 256, 0, 300);
+    try_xmtx_advance("one long record", WHOLE, 52, 1, 2, 0, 500);
+    try_xmtx_advance("256 long records", WHOLE, 52, 256, 1, 0, 40000);
+    try_xmtx_advance("at the font's end", 62, 52, 3, 2, 0, 300);
+    try_xmtx_advance("no long records", WHOLE, 52, 0, 0, 5, 0);
+    try_xmtx_advance("no long records, no hmtx, no font", 0, 0, 0, 0, 5, 0);
+    try_xmtx_advance("no hmtx", WHOLE, 0, 3, 0, 1, 0);
+    try_xmtx_advance("no hmtx, no font", 0, 0, 3, 0, 1, 0);
+    try_xmtx_advance("an empty font", 0, 52, 3, 0, 2, 0);
+    try_xmtx_advance("cut", 61, 52, 3, 2, 2, 0);
+    try_xmtx_advance("cut, past the long records", 61, 52, 3, 65535, 2, 0);
+    try_xmtx_advance("a record past the end", WHOLE, 52, 65535, 65535, 2, 0);
+    try_xmtx_advance("an offset past 65536", WHOLE, 65588, 3, 1, 2, 0);
+    try_xmtx_advance("an offset far past the end", WHOLE, 0xffffffff, 3, 1, 2, 0);
+
+    try_xmtx_sb("below 0", WHOLE, 52, 3, 0, 0, -20);
+    try_xmtx_sb("the second one", WHOLE, 52, 3, 1, 0, 5);
+    try_xmtx_sb("the last long record", WHOLE, 52, 3, 2, 0, 32767);
+    try_xmtx_sb("the first one past the long records", WHOLE, 52, 3, 3, 0, -32768);
+    try_xmtx_sb("the second one past them", WHOLE, 52, 3, 4, 0, 17);
+    try_xmtx_sb("past the table", WHOLE, 52, 3, 5, 0, 1);
+    try_xmtx_sb("256 long records", WHOLE, 52, 256, 1, 0, 5);
+    try_xmtx_sb("at the font's end", 68, 52, 3, 4, 0, 17);
+    try_xmtx_sb("no long records", WHOLE, 52, 0, 0, 5, 0);
+    try_xmtx_sb("no long records, no hmtx, no font", 0, 0, 0, 0, 5, 0);
+    try_xmtx_sb("no hmtx", WHOLE, 0, 3, 0, 1, 0);
+    try_xmtx_sb("no hmtx, no font", 0, 0, 3, 0, 1, 0);
+    try_xmtx_sb("an empty font", 0, 52, 3, 0, 2, 0);
+    try_xmtx_sb("cut", 63, 52, 3, 2, 2, 0);
+    try_xmtx_sb("cut, past the long records", 67, 52, 3, 4, 2, 0);
+    try_xmtx_sb("glyph 256", WHOLE, 52, 3, 256, 2, 0);
+    try_xmtx_sb("a record past the end", WHOLE, 52, 65535, 65535, 2, 0);
+    try_xmtx_sb("an offset past 65536", WHOLE, 65588, 3, 1, 2, 0);
+    try_xmtx_sb("an offset far past the end", WHOLE, 0xffffffff, 3, 1, 2, 0);
+}
+
+static void try_vorg(const char *name, const char *hex, size_t len, uint32_t vorg, uint16_t glyph, uint8_t number,
+                     int16_t expected)
+{
+    struct bytes font = bytes(hex);
+    int16_t value = 12345;
+    uint8_t found = suolluvik_vorg_origin(font.at, len, vorg, glyph, &value);
+    check(found == number && value == expected, "vorg_origin", name);
+}
+
+static void try_vorgs(void)
+{
+    try_vorg("the first record", NUMBERS, WHOLE, 68, 1, 0, -120);
+    try_vorg("the middle one", NUMBERS, WHOLE, 68, 3, 0, 700);
+    try_vorg("the last one", NUMBERS, WHOLE, 68, 40000, 0, -32768);
+    try_vorg("before the first one", NUMBERS, WHOLE, 68, 0, 0, 880);
+    try_vorg("between two", NUMBERS, WHOLE, 68, 2, 0, 880);
+    try_vorg("behind the last one", NUMBERS, WHOLE, 68, 65535, 0, 880);
+    try_vorg("glyph 257", NUMBERS, WHOLE, 68, 257, 0, 880);
+    try_vorg("no records", NO_RECORDS, 76, 68, 1, 0, 880);
+    try_vorg("not sorted", UNSORTED, WHOLE, 68, 5, 0, 880);
+    try_vorg("not sorted, the middle one", UNSORTED, WHOLE, 68, 3, 0, 700);
+    try_vorg("no VORG", NUMBERS, WHOLE, 0, 1, 1, 0);
+    try_vorg("no VORG, no font", NUMBERS, 0, 0, 1, 1, 0);
+    try_vorg("an empty font", NUMBERS, 0, 68, 1, 2, 0);
+    try_vorg("cut in the default", NUMBERS, 73, 68, 1, 2, 0);
+    try_vorg("cut in the count", NUMBERS, 75, 68, 1, 2, 0);
+    try_vorg("cut in a record's glyph", NUMBERS, 81, 68, 1, 2, 0);
+    try_vorg("cut in a record's origin", NUMBERS, 83, 68, 3, 2, 0);
+    try_vorg("cut behind its record", NUMBERS, 83, 68, 1, 0, -120);
+    try_vorg("cut before its record", NUMBERS, 84, 68, 40000, 2, 0);
+    try_vorg("cut behind the walk, not found", NUMBERS, 84, 68, 0, 0, 880);
+    try_vorg("an offset past 65536", NUMBERS, WHOLE, 65604, 1, 2, 0);
+    try_vorg("an offset far past the end", NUMBERS, WHOLE, 0xffffffff, 1, 2, 0);
+}
+
+/* At the first ones of the coordinates 8192 and -4096. */
+static void try_adjusted_advance(const char *name, const char *hex, uint32_t xmtx, uint16_t count, uint32_t xvar,
+                                 uint16_t glyph, size_t coords_len, float scale, uint8_t number, float expected)
+{
+    struct bytes font = bytes(hex);
+    int16_t coords[] = {8192, -4096};
+    float value = 123.5f;
+    uint8_t found = suolluvik_adjusted_advance(font.at, font.len, xmtx, count, xvar, glyph, coords, coords_len, scale,
+                                               &value);
+    check(found == number && same_float(value, expected), "adjusted_advance", name);
+}
+
+static void try_adjusted_sb(const char *name, const char *hex, uint32_t xmtx, uint16_t count, uint32_t xvar,
+                            uint16_t glyph, size_t coords_len, float scale, uint8_t number, float expected)
+{
+    struct bytes font = bytes(hex);
+    int16_t coords[] = {8192, -4096};
+    float value = 123.5f;
+    uint8_t found = suolluvik_adjusted_sb(font.at, font.len, xmtx, count, xvar, glyph, coords, coords_len, scale, &value);
+    check(found == number && same_float(value, expected), "adjusted_sb", name);
+}
+
+/* BOTH, an hmtx at 176 and a vmtx at 186, each with two long records and a bearing behind them. GLYPHS and an hmtx at 60. */
+#define TWO_WAYS BOTH "01f4 ffec 9c40 0005 8000" "03e8 001e ffff ff38 0007"
+#define MAPPED GLYPHS HMTX
+
+static void try_adjusted(void)
+{
+    try_adjusted_advance("S1 at 8192, (500 + 50) * 2", NUMBERS, 52, 3, 4, 0, 1, 2, 0, 1100);
+    try_adjusted_advance("S1, no coordinates", NUMBERS, 52, 3, 4, 0, 0, 2, 0, 1000);
+    try_adjusted_advance("no HVAR", NUMBERS, 52, 3, 0, 0, 1, 2, 0, 1000);
+    try_adjusted_advance("a glyph past the item count", NUMBERS, 52, 3, 4, 1, 1, 2, 0, 80000);
+    try_adjusted_advance("an HVAR past 65536", NUMBERS, 52, 3, 65540, 0, 1, 2, 0, 1000);
+    try_adjusted_advance("an HVAR far past the end", NUMBERS, 52, 3, 0xffffffff, 65535, 1, 2, 0, 600);
+    try_adjusted_advance("256 long records", NUMBERS, 52, 256, 4, 0, 1, 2, 0, 1100);
+    try_adjusted_advance("at the font's end", S1 "00 01f4", 52, 3, 4, 0, 1, 2, 0, 1100);
+    try_adjusted_advance("no coordinates, (300 + 12) * -0.5", MAPPED, 60, 3, 4, 65535, 0, -0.5f, 0, -156);
+    try_adjusted_advance("two axes", TWO_WAYS, 176, 2, 4, 0, 2, -0.5f, 0, -277.5f);
+    try_adjusted_advance("two axes, glyph 256", TWO_WAYS, 176, 2, 4, 256, 2, -0.5f, 0, -20011.5f);
+    try_adjusted_advance("vmtx and VVAR", TWO_WAYS, 186, 2, 90, 0, 2, -0.5f, 0, -516);
+    try_adjusted_advance("vmtx and VVAR, glyph 256", TWO_WAYS, 186, 2, 90, 256, 2, -0.5f, 0, -32775.5f);
+    try_adjusted_advance("a NaN for the scale", NUMBERS, 52, 3, 4, 0, 1, NAN, 0, NAN);
+    try_adjusted_advance("an infinite scale", NUMBERS, 52, 3, 4, 0, 1, -INFINITY, 0, -INFINITY);
+    try_adjusted_advance("a scale of -0", NUMBERS, 52, 3, 4, 0, 1, -0.0f, 0, -0.0f);
+    try_adjusted_advance("no long records", NUMBERS, 52, 0, 4, 0, 1, 2, 5, 0);
+    try_adjusted_advance("no long records, no hmtx, no font", "", 0, 0, 4, 0, 1, 2, 5, 0);
+    try_adjusted_advance("no hmtx", NUMBERS, 0, 3, 4, 0, 1, 2, 1, 0);
+    try_adjusted_advance("no hmtx, no font, a NaN for the scale", "", 0, 3, 4, 0, 1, NAN, 1, 0);
+    try_adjusted_advance("an empty font", "", 52, 3, 4, 0, 1, 2, 2, 0);
+    try_adjusted_advance("cut", S1 "00 01f4 ffec 9c", 52, 3, 4, 1, 1, 2, 2, 0);
+    try_adjusted_advance("an offset past 65536", NUMBERS, 65588, 3, 4, 0, 1, 2, 2, 0);
+    try_adjusted_advance("an offset far past the end", NUMBERS, 0xffffffff, 3, 4, 0, 1, -2, 2, 0);
+
+    try_adjusted_sb("no coordinates, (-20 + 12) * 2", MAPPED, 60, 3, 4, 0, 0, 2, 0, -16);
+    try_adjusted_sb("past the long records, (-32768 + 12) * 2", MAPPED, 60, 3, 4, 3, 1, 2, 0, -65512);
+    try_adjusted_sb("no HVAR", MAPPED, 60, 3, 0, 4, 1, 2, 0, 34);
+    try_adjusted_sb("no map: S1", NUMBERS, 52, 3, 4, 0, 1, 2, 0, -40);
+    try_adjusted_sb("an HVAR past 65536", MAPPED, 60, 3, 65540, 0, 1, 2, 0, -40);
+    try_adjusted_sb("an HVAR far past the end", NUMBERS, 52, 3, 0xffffffff, 1, 1, 2, 0, 10);
+    try_adjusted_sb("256 long records", MAPPED, 60, 256, 4, 0, 1, 2, 0, -16);
+    try_adjusted_sb("at the font's end", GLYPHS "01f4 ffec", 60, 3, 4, 0, 1, 2, 0, -16);
+    try_adjusted_sb("two axes", TWO_WAYS, 176, 2, 4, 0, 2, -0.5f, 0, 8.5f);
+    try_adjusted_sb("two axes, past the long records", TWO_WAYS, 176, 2, 4, 2, 2, -0.5f, 0, 16385.25f);
+    try_adjusted_sb("vmtx and VVAR", TWO_WAYS, 186, 2, 90, 0, 2, -0.5f, 0, -20.5f);
+    try_adjusted_sb("vmtx and VVAR, past the long records", TWO_WAYS, 186, 2, 90, 2, 2, -0.5f, 0, -5.25f);
+    try_adjusted_sb("a NaN for the scale", NUMBERS, 52, 3, 4, 0, 1, NAN, 0, NAN);
+    try_adjusted_sb("an infinite scale", NUMBERS, 52, 3, 4, 0, 1, -INFINITY, 0, INFINITY);
+    try_adjusted_sb("a scale of -0", NUMBERS, 52, 3, 4, 1, 1, -0.0f, 0, -0.0f);
+    try_adjusted_sb("no long records", NUMBERS, 52, 0, 4, 0, 1, 2, 5, 0);
+    try_adjusted_sb("no long records, no hmtx, no font", "", 0, 0, 4, 0, 1, 2, 5, 0);
+    try_adjusted_sb("no hmtx", NUMBERS, 0, 3, 4, 0, 1, 2, 1, 0);
+    try_adjusted_sb("no hmtx, no font, a NaN for the scale", "", 0, 3, 4, 0, 1, NAN, 1, 0);
+    try_adjusted_sb("an empty font", "", 52, 3, 4, 0, 1, 2, 2, 0);
+    try_adjusted_sb("cut", S1 "00 01f4 ffec 9c40 00", 52, 3, 4, 1, 1, 2, 2, 0);
+    try_adjusted_sb("glyph 256", NUMBERS, 52, 3, 4, 256, 1, 2, 2, 0);
+    try_adjusted_sb("an offset past 65536", NUMBERS, 65588, 3, 4, 0, 1, 2, 2, 0);
+    try_adjusted_sb("an offset far past the end", NUMBERS, 0xffffffff, 3, 4, 0, 1, -2, 2, 0);
+}
+
 /* NULL with length 0 is an empty list, in the place of each list of each function. */
 
 static void try_null_deltas(void)
@@ -729,6 +916,23 @@ static void try_null_metrics(void)
     check(suolluvik_materialize_glyph_metrics(mvar.at, mvar.len, MADE, 4, NULL, 0, 1000, 800, &advance, &origin) == 0 && advance == 1000 && origin == 800, "materialize_glyph_metrics", "NULL for the coordinates");
 }
 
+static void try_null_numbers(void)
+{
+    struct bytes font = bytes(MAPPED);
+    int16_t coord = 8192, value = 77;
+    uint16_t advance = 77;
+    float real = 77;
+
+    check(suolluvik_xmtx_advance(NULL, 0, 60, 3, 0, &advance) == 2 && advance == 0, "xmtx_advance", "NULL");
+    check(suolluvik_xmtx_sb(NULL, 0, 60, 3, 0, &value) == 2 && value == 0, "xmtx_sb", "NULL");
+    value = 77;
+    check(suolluvik_vorg_origin(NULL, 0, 68, 1, &value) == 2 && value == 0, "vorg_origin", "NULL");
+    check(suolluvik_adjusted_advance(NULL, 0, 60, 3, 4, 0, &coord, 1, 2, &real) == 2 && real == 0, "adjusted_advance", "NULL for the font");
+    check(suolluvik_adjusted_advance(font.at, font.len, 60, 3, 4, 0, NULL, 0, 2, &real) == 0 && real == 1020, "adjusted_advance", "NULL for the coordinates");
+    check(suolluvik_adjusted_sb(NULL, 0, 60, 3, 4, 0, &coord, 1, 2, &real) == 2 && real == 0, "adjusted_sb", "NULL for the font");
+    check(suolluvik_adjusted_sb(font.at, font.len, 60, 3, 4, 0, NULL, 0, 2, &real) == 0 && real == -16, "adjusted_sb", "NULL for the coordinates");
+}
+
 static void try_names(void)
 {
     static const int refusals[] = {SUOLLUVIK_OK,         SUOLLUVIK_ABSENT,  SUOLLUVIK_SHORT, SUOLLUVIK_INDEX, SUOLLUVIK_TAG,
@@ -749,9 +953,13 @@ int main(void)
     try_all_measures();
     try_widths();
     try_vertical();
+    try_xmtx();
+    try_vorgs();
+    try_adjusted();
     try_null_deltas();
     try_null_axes();
     try_null_metrics();
+    try_null_numbers();
     try_names();
     printf("%d passed, %d failed\n", passed, failed);
     return failed != 0;

@@ -992,6 +992,260 @@ fn materialized(t: &mut Test) {
     }
 }
 
+// An hmtx with three long records, of 500 and -20, 40000 and 5, 300 and 32767, and with two bearings behind them, -32768 and
+// 17; and a VORG, by default 880, with the glyphs 1, 3 and 40000. Behind S1 and a byte they are at 52 and at 68.
+const HMTX: &str = "01f4 ffec 9c40 0005 012c 7fff 8000 0011";
+const VORG_TABLE: &str = "00010000 0370 0003 0001 ff88 0003 02bc 9c40 8000";
+
+/// S1, HMTX and VORG_TABLE.
+fn numbers() -> Vec<u8> {
+    bytes(&[S1, "00", HMTX, VORG_TABLE].concat())
+}
+
+fn unvaried(t: &mut Test) {
+    let font = &numbers()[..];
+    for (name, font, xmtx, count, glyph, expected) in [
+        ("the first one", font, 52, 3, 0, Ok((500, -20))),
+        ("above 32767", font, 52, 3, 1, Ok((40000, 5))),
+        ("the last long record", font, 52, 3, 2, Ok((300, 32767))),
+        ("past the long records", font, 52, 3, 3, Ok((300, -32768))),
+        ("the second past them", font, 52, 3, 4, Ok((300, 17))),
+        ("past the table", font, 52, 3, 5, Ok((300, 1))),
+        ("256 long records", font, 52, 256, 1, Ok((40000, 5))),
+        ("at the font's end", &font[..68], 52, 3, 4, Ok((300, 17))),
+        ("no long records", font, 52, 0, 0, Err(Arithmetic)),
+        ("nothing", &[], 0, 0, 0, Err(Arithmetic)),
+        ("no hmtx", font, 0, 3, 0, Err(Absent)),
+        ("no hmtx, no font", &[], 0, 3, 0, Err(Absent)),
+        ("no font", &[], 52, 3, 0, Err(Short)),
+        ("cut", &font[..61], 52, 3, 2, Err(Short)),
+        ("past the end", font, 52, 65535, 65535, Err(Short)),
+        ("past 65536", font, 65588, 3, 1, Err(Short)),
+        ("far past the end", font, u32::MAX, 3, 1, Err(Short)),
+    ] {
+        let found = suolluvik::xmtx_advance(font, xmtx, count, glyph);
+        let advance = expected.map(|(advance, _)| advance);
+        t.same(&format!("xmtx_advance: {name}"), found, advance);
+        let found = suolluvik::xmtx_sb(font, xmtx, count, glyph);
+        let bearing = expected.map(|(_, bearing)| bearing);
+        t.same(&format!("xmtx_sb: {name}"), found, bearing);
+    }
+    // the advance is the last one, and no bearing is there
+    let found = suolluvik::xmtx_advance(font, 52, 3, 65535);
+    t.same("xmtx_advance: glyph 65535", found, Ok(300));
+    let found = suolluvik::xmtx_advance(font, 52, 3, 256);
+    t.same("xmtx_advance: glyph 256", found, Ok(300));
+    let found = suolluvik::xmtx_sb(font, 52, 3, 256);
+    t.same("xmtx_sb: glyph 256", found, Err(Short));
+    let found = suolluvik::xmtx_advance(&font[..62], 52, 3, 2);
+    t.same("xmtx_advance: at the font's end", found, Ok(300));
+    let found = suolluvik::xmtx_sb(&font[..63], 52, 3, 2);
+    t.same("xmtx_sb: cut in a long record", found, Err(Short));
+    let found = suolluvik::xmtx_sb(&font[..67], 52, 3, 4);
+    t.same("xmtx_sb: cut past them", found, Err(Short));
+}
+
+fn vertical_origins(t: &mut Test) {
+    let font = &numbers()[..];
+    let (mut unsorted, mut empty) = (font.to_vec(), font[..76].to_vec());
+    unsorted[76..].copy_from_slice(&bytes("0005 ff88 0003 02bc 0001 8000"));
+    empty[74..].fill(0);
+    for (name, font, vorg, glyph, expected) in [
+        ("the first record", font, 68, 1, Ok(-120)),
+        ("the middle one", font, 68, 3, Ok(700)),
+        ("the last one", font, 68, 40000, Ok(-32768)),
+        ("before the first one", font, 68, 0, Ok(880)),
+        ("between two", font, 68, 2, Ok(880)),
+        ("behind the last one", font, 68, 65535, Ok(880)),
+        ("glyph 257", font, 68, 257, Ok(880)),
+        ("no records", &empty, 68, 1, Ok(880)),
+        ("not sorted", &unsorted, 68, 5, Ok(880)),
+        ("not sorted, the middle one", &unsorted, 68, 3, Ok(700)),
+        ("no VORG", font, 0, 1, Err(Absent)),
+        ("no VORG, no font", &[], 0, 1, Err(Absent)),
+        ("no font", &[], 68, 1, Err(Short)),
+        ("cut in the default", &font[..73], 68, 1, Err(Short)),
+        ("cut in the count", &font[..75], 68, 1, Err(Short)),
+        ("cut in a record's glyph", &font[..81], 68, 1, Err(Short)),
+        ("cut in a record's origin", &font[..83], 68, 3, Err(Short)),
+        ("cut behind its record", &font[..83], 68, 1, Ok(-120)),
+        ("cut before its record", &font[..84], 68, 40000, Err(Short)),
+        ("cut behind the walk", &font[..84], 68, 0, Ok(880)),
+        ("past 65536", font, 65604, 1, Err(Short)),
+        ("far past the end", font, u32::MAX, 1, Err(Short)),
+    ] {
+        let found = suolluvik::vorg_origin(font, vorg, glyph);
+        t.same(&format!("vorg_origin: {name}"), found, expected);
+    }
+}
+
+type Adjusted = fn(&[u8], u32, u16, u32, u16, &[i16], f32) -> Result<f32, Refusal>;
+
+fn adjusted(t: &mut Test) {
+    // BOTH with an hmtx at 176 and a vmtx at 186, each with two long records and a bearing behind them; GLYPHS with an hmtx at 60
+    let vmtx = "03e8 001e ffff ff38 0007";
+    let both = &bytes(&[BOTH, "01f4 ffec 9c40 0005 8000", vmtx].concat())[..];
+    let mapped = &bytes(&[GLYPHS, HMTX].concat())[..];
+    let font = &numbers()[..];
+    let half: &[i16] = &[8192];
+    let wide = suolluvik::adjusted_advance;
+    let side = suolluvik::adjusted_sb;
+    for (name, found, expected) in [
+        (
+            "S1",
+            wide(font, 52, 3, 4, 0, half, 2.),
+            Ok((500. + 50.) * 2.),
+        ),
+        (
+            "S1, no coordinates",
+            wide(font, 52, 3, 4, 0, &[], 2.),
+            Ok(1000.),
+        ),
+        ("no HVAR", wide(font, 52, 3, 0, 0, half, 2.), Ok(1000.)),
+        (
+            "a glyph past the item count",
+            wide(font, 52, 3, 4, 1, half, 2.),
+            Ok(80000.),
+        ),
+        (
+            "an HVAR past 65536",
+            wide(font, 52, 3, 65540, 0, half, 2.),
+            Ok(1000.),
+        ),
+        (
+            "an HVAR far past the end",
+            wide(font, 52, 3, u32::MAX, 65535, half, 2.),
+            Ok(600.),
+        ),
+        (
+            "256 long records",
+            wide(font, 52, 256, 4, 0, half, 2.),
+            Ok(1100.),
+        ),
+        (
+            "at the font's end",
+            wide(&font[..54], 52, 3, 4, 0, half, 2.),
+            Ok(1100.),
+        ),
+        (
+            "no coordinates",
+            wide(mapped, 60, 3, 4, 65535, &[], -0.5),
+            Ok((300. + 12.) * -0.5),
+        ),
+        (
+            "two axes",
+            wide(both, 176, 2, 4, 0, PLACE, -0.5),
+            Ok((500. + 55.) * -0.5),
+        ),
+        (
+            "two axes, glyph 256",
+            wide(both, 176, 2, 4, 256, PLACE, -0.5),
+            Ok((40000. + 23.) * -0.5),
+        ),
+        (
+            "vmtx and VVAR",
+            wide(both, 186, 2, 90, 0, PLACE, -0.5),
+            Ok((1000. + 32.) * -0.5),
+        ),
+        (
+            "vmtx and VVAR, glyph 256",
+            wide(both, 186, 2, 90, 256, PLACE, -0.5),
+            Ok((65535. + 16.) * -0.5),
+        ),
+        (
+            "an infinite scale",
+            wide(font, 52, 3, 4, 0, half, f32::NEG_INFINITY),
+            Ok(f32::NEG_INFINITY),
+        ),
+    ] {
+        t.same(&format!("adjusted_advance: {name}"), found, expected);
+    }
+    for (name, found, expected) in [
+        (
+            "no coordinates",
+            side(mapped, 60, 3, 4, 0, &[], 2.),
+            Ok((-20. + 12.) * 2.),
+        ),
+        (
+            "past the long records",
+            side(mapped, 60, 3, 4, 3, half, 2.),
+            Ok((-32768. + 12.) * 2.),
+        ),
+        ("no HVAR", side(mapped, 60, 3, 0, 4, half, 2.), Ok(34.)),
+        ("no map: S1", side(font, 52, 3, 4, 0, half, 2.), Ok(-40.)),
+        (
+            "an HVAR past 65536",
+            side(mapped, 60, 3, 65540, 0, half, 2.),
+            Ok(-40.),
+        ),
+        (
+            "an HVAR far past the end",
+            side(font, 52, 3, u32::MAX, 1, half, 2.),
+            Ok(10.),
+        ),
+        (
+            "256 long records",
+            side(mapped, 60, 256, 4, 0, half, 2.),
+            Ok(-16.),
+        ),
+        (
+            "at the font's end",
+            side(&mapped[..64], 60, 3, 4, 0, half, 2.),
+            Ok(-16.),
+        ),
+        ("glyph 256", side(font, 52, 3, 4, 256, half, 2.), Err(Short)),
+        (
+            "two axes",
+            side(both, 176, 2, 4, 0, PLACE, -0.5),
+            Ok((-20. + 3.) * -0.5),
+        ),
+        (
+            "two axes, past the long records",
+            side(both, 176, 2, 4, 2, PLACE, -0.5),
+            Ok((-32768. - 2.5) * -0.5),
+        ),
+        (
+            "vmtx and VVAR",
+            side(both, 186, 2, 90, 0, PLACE, -0.5),
+            Ok((30. + 11.) * -0.5),
+        ),
+        (
+            "vmtx and VVAR, past the long records",
+            side(both, 186, 2, 90, 2, PLACE, -0.5),
+            Ok((7. + 3.5) * -0.5),
+        ),
+        (
+            "an infinite scale",
+            side(font, 52, 3, 4, 0, half, f32::NEG_INFINITY),
+            Ok(f32::INFINITY),
+        ),
+    ] {
+        t.same(&format!("adjusted_sb: {name}"), found, expected);
+    }
+    for (name, adjusted) in [
+        ("adjusted_advance", wide as Adjusted),
+        ("adjusted_sb", side),
+    ] {
+        for (case, font, xmtx, count, glyph, expected) in [
+            ("no long records", font, 52, 0, 0, Arithmetic),
+            ("nothing", &[], 0, 0, 0, Arithmetic),
+            ("no hmtx", font, 0, 3, 0, Absent),
+            ("no hmtx, no font", &[], 0, 3, 0, Absent),
+            ("no font", &[], 52, 3, 0, Short),
+            ("cut", &font[..57], 52, 3, 1, Short),
+            ("past 65536", font, 65588, 3, 0, Short),
+            ("far past the end", font, u32::MAX, 3, 0, Short),
+        ] {
+            for scale in [2., f32::NAN] {
+                let found = adjusted(font, xmtx, count, 4, glyph, half, scale);
+                t.same(&format!("{name}: {case}"), found, Err(expected));
+            }
+        }
+        let found = adjusted(font, 52, 3, 4, 0, half, f32::NAN).map(f32::is_nan);
+        t.same(&format!("{name}: a NaN for the scale"), found, Ok(true));
+    }
+}
+
 /// What grows: the numbers of refusals, and the version.
 fn growth(t: &mut Test) {
     let numbers = [Absent, Short, Index, Tag, Arithmetic, Lengths, Room].map(Refusal::number);
@@ -1022,6 +1276,9 @@ fn main() -> ExitCode {
     upright(&mut t);
     scales(&mut t);
     materialized(&mut t);
+    unvaried(&mut t);
+    vertical_origins(&mut t);
+    adjusted(&mut t);
     println!("{} passed, {} failed", t.passed, t.failed);
     ExitCode::from((t.failed != 0) as u8)
 }

@@ -118,7 +118,10 @@ pub cut-origins :
 unfolding computing-tables
 cut-origins = (refl, refl, refl, refl, refl, refl, refl, refl)
 
--- The reads of a VORG in their order: the default, the count, a glyph id for each turn, the origin that is found.
-pub reads-of-origins : partsOf origins (originAt 2 9) (λ y. []) ≡ bytes 6 2 ∷ bytes 8 2 ∷ bytes 14 2 ∷ bytes 18 2 ∷ bytes 20 2 ∷ []
+-- The reads of a VORG in their order: the default, the count, a glyph id for each turn, the origin that is found. No record is looked at twice.
+pub reads-of-origins :
+    (partsOf origins (originAt 2 9) (λ y. []) ≡ bytes 6 2 ∷ bytes 8 2 ∷ bytes 14 2 ∷ bytes 18 2 ∷ bytes 20 2 ∷ [])
+    × (partsOf origins (originAt 2 65535) (λ y. []) ≡ bytes 6 2 ∷ bytes 8 2 ∷ bytes 14 2 ∷ bytes 18 2 ∷ [])
+    × (partsOf origins (originAt 2 6) (λ y. []) ≡ bytes 6 2 ∷ bytes 8 2 ∷ bytes 14 2 ∷ bytes 10 2 ∷ [])
 unfolding computing-tables partsOf
-reads-of-origins = refl
+reads-of-origins = (refl, refl, refl)

@@ -1,4 +1,4 @@
--- Demand 3 for an adjusted measure; no second answer; small fonts, computed by the definitions.
+-- Small fonts, computed by the definitions; demand 3 for an adjusted measure; no second answer.
+pub mod Table
 pub mod OnlyFootprint
 pub mod One
-pub mod Table

@@ -8,6 +8,7 @@ mod random;
 mod store;
 mod tags;
 mod text;
+mod widths;
 
 use std::cell::Cell;
 use std::collections::BTreeMap;
@@ -18,13 +19,14 @@ use std::panic::{catch_unwind, resume_unwind};
 use std::process::ExitCode;
 
 const USAGE: &str = "\
-oracle cases SEED COUNT SUBJECT      write COUNT cases of numbers, axes, store, metrics or all
+oracle cases SEED COUNT SUBJECT      write COUNT cases of numbers, axes, store, metrics, widths or all
 oracle sample SEED                   write the cases of the stored sample
 oracle answers                       answer the cases on standard input
 oracle stops                         of the cases on standard input write those on which the Rust stops
 oracle compare SEED COUNT SUBJECT    hold the answers on standard input to those of the cases of SEED
 oracle compare FILE                  hold the answers on standard input to those of the cases in FILE
-oracle twins SEED COUNT              write COUNT cases of a delta, each with its twin behind it
+oracle twins SEED COUNT              write COUNT cases of a delta, and then a quarter as many of an adjusted
+                                     width, each with its twin behind it
 oracle footprints SEED COUNT         hold the answers on standard input to those of the twins of SEED
 ";
 
@@ -37,7 +39,7 @@ pub enum Rust {
     /// panics, by an overflow check
     Stops,
     /// has no counterpart: a list too short, lists of different length, an avar, an outer index over 16
-    /// bits, a measure that is no 16-bit integer
+    /// bits, a measure that is no 16-bit integer, a number that is read from hmtx, vmtx or VORG
     Silent,
 }
 
@@ -112,6 +114,7 @@ fn of_subjects(line: &str) -> Option<Expected> {
         .or_else(|| store::parse(line).map(|case| case.expected()))
         .or_else(|| store::tags(line))
         .or_else(|| metrics::parse(line).map(|case| case.expected()))
+        .or_else(|| widths::parse(line).map(|case| case.expected()))
 }
 
 /// What stands for a line that is no case.
@@ -273,16 +276,25 @@ fn cases(seed: &str, count: &str, subject: &str) -> Option<Box<dyn Iterator<Item
     let mut axes = axes::cases::with_avar(seed);
     let mut store = store::cases::with_counts(seed);
     let mut metrics = metrics::cases::with_counts(seed);
+    let mut widths = widths::cases::with_counts(seed);
     let all: Box<dyn Iterator<Item = String>> = match subject {
         "numbers" => Box::new(numbers),
         "axes" => Box::new(axes),
         "store" => Box::new(store),
         "metrics" => Box::new(metrics),
-        "all" => Box::new(
-            numbers
-                .flat_map(move |number| [Some(number), axes.next(), store.next(), metrics.next()])
-                .flatten(),
-        ),
+        "widths" => Box::new(widths),
+        "all" => {
+            let turn = move |number| {
+                [
+                    Some(number),
+                    axes.next(),
+                    store.next(),
+                    metrics.next(),
+                    widths.next(),
+                ]
+            };
+            Box::new(numbers.flat_map(turn).flatten())
+        }
         _ => return None,
     };
     Some(Box::new(all.take(count.parse().ok()?)))
@@ -294,8 +306,11 @@ const SAMPLE: usize = 3000;
 /// Lines with an avar, behind those of the subjects.
 const SAMPLE_OF_AVAR: usize = 500;
 
-/// Lines of item counts, behind all others; of the metrics half as many.
+/// Lines of item counts, behind these; of the metrics half as many.
 const SAMPLE_OF_COUNTS: usize = 400;
+
+/// Lines of widths, behind all others.
+const SAMPLE_OF_WIDTHS: usize = 640;
 
 fn run(words: &[&str]) -> Option<bool> {
     match *words {
@@ -313,6 +328,7 @@ fn run(words: &[&str]) -> Option<bool> {
             write_all(store::cases::no_variation().into_iter());
             write_all(store::cases::counts::sample(seed, SAMPLE_OF_COUNTS).into_iter());
             write_all(metrics::cases::sample_of_counts(seed, SAMPLE_OF_COUNTS / 2).into_iter());
+            write_all(widths::cases::sample(seed, SAMPLE_OF_WIDTHS).into_iter());
         }
         ["answers"] => {
             let answer = |line: String| {

@@ -14,12 +14,16 @@ mod judge;
 mod private;
 #[allow(dead_code)]
 mod random;
+#[path = "shelf/read.rs"]
+mod read;
 // the build puts link/suolluvik.rs beside this file
 #[allow(dead_code)]
 mod suolluvik;
 mod tags;
 #[allow(dead_code)]
 mod text;
+#[path = "shelf/written.rs"]
+mod written;
 
 #[allow(dead_code)]
 mod numbers {
@@ -33,12 +37,21 @@ mod axes {
 mod store {
     pub mod rules;
 }
+#[allow(dead_code)]
+mod metrics {
+    pub mod rules;
+}
+#[allow(dead_code)]
+mod widths {
+    pub mod rules;
+}
 
 use ask::Asker;
 use damage::Fields;
 use font::{Font, Kind};
 use judge::{Judge, Tally, COLUMNS, FUNCTIONS};
 use random::Random;
+use read::Reading;
 use std::collections::BTreeMap;
 use std::ffi::OsString;
 use std::fmt::Display;
@@ -53,6 +66,7 @@ const USAGE: &str = "\
 shelf compare FOLDER                 compare the fonts below FOLDER
 shelf damage FOLDER ROUNDS SEED      the same ROUNDS times, each font damaged by random from SEED
 shelf coords FOLDER                  write coordinates by the library, with avar, of the fonts below FOLDER
+shelf widths FOLDER                  write hmtx, vmtx, VORG and widths by the library
 ";
 
 /// A font that is larger is left out.
@@ -132,6 +146,9 @@ struct Row {
     fonts: u64,
     without_fvar: u64,
     tally: Tally,
+    /// with hmtx, with vmtx, with VORG
+    tables: [u64; 3],
+    read: read::Tally,
 }
 
 impl Row {
@@ -139,6 +156,23 @@ impl Row {
         let mut columns = vec![self.fonts, self.without_fvar];
         columns.extend(self.tally.columns());
         columns
+    }
+
+    fn read_columns(&self) -> Vec<u64> {
+        let mut columns = vec![self.fonts];
+        columns.extend(self.tables);
+        columns.extend(self.read.columns());
+        columns
+    }
+
+    fn add(&mut self, other: &Row) {
+        self.fonts += other.fonts;
+        self.without_fvar += other.without_fvar;
+        self.tally.add(&other.tally);
+        for (sum, more) in self.tables.iter_mut().zip(other.tables) {
+            *sum += more;
+        }
+        self.read.add(&other.read);
     }
 }
 
@@ -152,8 +186,10 @@ fn print_row(width: usize, name: &str, cells: &[impl Display]) {
 
 struct Shelf {
     judge: Judge,
+    reading: Reading,
     rows: BTreeMap<String, Row>,
     functions: [Tally; FUNCTIONS.len()],
+    readings: [read::Tally; read::FUNCTIONS.len()],
     without_fvar: Vec<String>,
 }
 
@@ -191,13 +227,22 @@ impl Shelf {
             };
             let row = self.rows.entry(row.clone()).or_default();
             row.fonts += 1;
-            if !Font::at(&data, directory).has_fvar {
+            let font = Font::at(&data, directory);
+            if !font.has_fvar {
                 row.without_fvar += 1;
                 self.without_fvar.push(title.clone());
             }
+            for (count, at) in row
+                .tables
+                .iter_mut()
+                .zip([font.hmtx.at, font.vmtx.at, font.vorg])
+            {
+                *count += (at != 0) as u64;
+            }
             match damage {
                 None => {
-                    self.judge.input = title;
+                    self.judge.input = title.clone();
+                    self.reading.input = title;
                     let mut asker = Asker {
                         font: Font::at(&data, directory),
                         judge: &mut self.judge,
@@ -205,11 +250,13 @@ impl Shelf {
                         brief: false,
                     };
                     asker.all();
+                    let (glyphs, lists) = (asker.sample(), asker.lists());
+                    self.reading.ask(&asker.font, &glyphs, &lists);
+                    self.reading.miscounted(&asker.font);
                 }
                 Some((rounds, seed)) => {
                     let fields = Fields::of(&data, directory);
-                    let rounds = if fields.is_empty() { 0 } else { rounds };
-                    for round in 0..rounds {
+                    for round in 0..if fields.is_empty() { 0 } else { rounds } {
                         let mut random = Random::new(seed_of(seed, path, face, round));
                         let done = fields.damage(&mut data, &mut random);
                         self.judge.input =
@@ -223,7 +270,28 @@ impl Shelf {
                         asker.all();
                         done.undo(&mut data);
                     }
+                    // apart from these, and by other random numbers, what widths are read by
+                    let fields = Fields::of_widths(&data, directory);
+                    for round in 0..if fields.is_empty() { 0 } else { rounds } {
+                        let mut random = Random::new(seed_of(!seed, path, face, round));
+                        let done = fields.damage(&mut data, &mut random);
+                        self.reading.input =
+                            format!("{title}, seed {seed}, round {round}: {}", done.text());
+                        let mut asker = Asker {
+                            font: Font::at(&data[..done.length], directory),
+                            judge: &mut self.judge,
+                            random,
+                            brief: true,
+                        };
+                        let (glyphs, lists) = (asker.sample(), asker.lists());
+                        self.reading.ask(&asker.font, &glyphs, &lists);
+                        done.undo(&mut data);
+                    }
                 }
+            }
+            for (k, tally) in self.reading.take().iter().enumerate() {
+                row.read.add(tally);
+                self.readings[k].add(tally);
             }
             for (k, tally) in self.judge.take().iter().enumerate() {
                 row.tally.add(tally);
@@ -233,19 +301,19 @@ impl Shelf {
         Ok(())
     }
 
-    /// Prints both tables, and answers whether there is no difference.
+    /// Prints both pairs of tables, and answers whether there is no difference.
     fn table(&self) -> bool {
         let names = self.rows.keys().map(|name| name.chars().count());
-        let longest = names.chain(FUNCTIONS.map(str::len)).max().unwrap_or(0);
+        let functions = FUNCTIONS.iter().chain(&read::FUNCTIONS);
+        let longest = names.chain(functions.map(|name| name.len())).max();
+        let longest = longest.unwrap_or(0);
         let mut columns = vec!["fonts", "without fvar"];
         columns.extend(COLUMNS);
         print_row(longest, "folder", &columns);
         let mut total = Row::default();
         for (name, row) in &self.rows {
             print_row(longest, name, &row.columns());
-            total.fonts += row.fonts;
-            total.without_fvar += row.without_fvar;
-            total.tally.add(&row.tally);
+            total.add(row);
         }
         print_row(longest, "all", &total.columns());
         println!();
@@ -254,7 +322,25 @@ impl Shelf {
             print_row(longest, name, &tally.columns());
         }
         print_row(longest, "all", &total.tally.columns());
-        total.tally.differences == 0
+        self.read_tables(longest, &total);
+        total.tally.differences + total.read.differences == 0
+    }
+
+    fn read_tables(&self, longest: usize, total: &Row) {
+        println!("\nhmtx, vmtx and VORG, and widths in one call, by the rules:\n");
+        let mut columns = vec!["fonts", "with hmtx", "with vmtx", "with VORG"];
+        columns.extend(read::COLUMNS);
+        print_row(longest, "folder", &columns);
+        for (name, row) in &self.rows {
+            print_row(longest, name, &row.read_columns());
+        }
+        print_row(longest, "all", &total.read_columns());
+        println!();
+        print_row(longest, "function", &read::COLUMNS);
+        for (name, tally) in read::FUNCTIONS.iter().zip(&self.readings) {
+            print_row(longest, name, &tally.columns());
+        }
+        print_row(longest, "all", &total.read.columns());
     }
 }
 
@@ -262,8 +348,10 @@ fn compare(folder: &Path, damage: Option<(u64, u64)>) -> io::Result<bool> {
     let files = Files::below(folder)?;
     let mut shelf = Shelf {
         judge: Judge::new(),
+        reading: Reading::default(),
         rows: BTreeMap::new(),
         functions: [Tally::default(); FUNCTIONS.len()],
+        readings: Default::default(),
         without_fvar: vec![],
     };
     let count = files.fonts.len();
@@ -296,6 +384,7 @@ fn run(words: &[OsString]) -> Option<io::Result<bool>> {
             Some(compare(Path::new(folder), Some(damage)))
         }
         ("coords", [folder]) => Some(coords::write(Path::new(folder)).map(|()| true)),
+        ("widths", [folder]) => Some(written::write(Path::new(folder)).map(|()| true)),
         _ => None,
     }
 }

@@ -6,12 +6,16 @@
 mod coords;
 #[path = "whole/deciding.rs"]
 mod deciding;
+#[path = "whole/falling.rs"]
+mod falling;
 #[path = "whole/font.rs"]
 mod font;
 #[path = "whole/judge.rs"]
 mod judge;
 #[path = "whole/measures.rs"]
 mod measures;
+#[path = "whole/reading.rs"]
+mod reading;
 #[path = "whole/tables.rs"]
 mod tables;
 
@@ -35,6 +39,10 @@ mod store {
 }
 #[allow(dead_code)]
 mod metrics {
+    pub mod rules;
+}
+#[allow(dead_code)]
+mod widths {
     pub mod rules;
 }
 
@@ -101,6 +109,10 @@ impl Reader {
             ("filled", [vvar, mvar, behind, changes @ ..]) => {
                 self.begin(|font| font.fill(Phase::Filled, vvar, mvar, behind, changes))?
             }
+            ("damaged", [hvar, vvar, mvar, behind]) => self.begin(|font| {
+                font.hvar = hvar.parse().map_err(|_| "no such place")?;
+                font.fill(Phase::Widths, vvar, mvar, behind, &[])
+            })?,
             ("halved", [vvar, mvar, behind, changes @ ..]) => {
                 self.begin(|font| font.fill(Phase::Halved, vvar, mvar, behind, changes))?
             }

@@ -10,7 +10,7 @@ use crate::text;
 
 /// Bits of floats: zeros, ones, ordinary scales, powers of two and their neighbours, what over- and
 /// underflows, subnormal ones, infinities, NaNs.
-const FLOATS: [u32; 52] = [
+pub const FLOATS: [u32; 52] = [
     0x0000_0000,
     0x8000_0000,
     0x3f80_0000,
@@ -69,11 +69,11 @@ const UNITS: [u16; 12] = [
     0, 1, 2, 1000, 1024, 2048, 16384, 32767, 32768, 40000, 65534, 65535,
 ];
 
-const ADVANCES: [u16; 8] = [0, 1, 2, 500, 1229, 32767, 32768, 65535];
+pub const ADVANCES: [u16; 8] = [0, 1, 2, 500, 1229, 32767, 32768, 65535];
 
-const BEARINGS: [i16; 8] = [0, 1, -1, 50, -321, 32767, -32767, -32768];
+pub const BEARINGS: [i16; 8] = [0, 1, -1, 50, -321, 32767, -32767, -32768];
 
-fn bits_text(bits: impl IntoIterator<Item = u32>) -> String {
+pub fn bits_text(bits: impl IntoIterator<Item = u32>) -> String {
     text::list_text(bits.into_iter().map(|bits| format!("{bits:08x}")))
 }
 
@@ -113,7 +113,7 @@ fn other_measures(k: usize) -> [u32; 13] {
 }
 
 /// The tags of the measures that have one.
-fn tags() -> Vec<u32> {
+pub fn tags() -> Vec<u32> {
     let tag = |tag: &&[u8; 4]| u32::from_be_bytes(**tag);
     TAGS.iter().flatten().map(tag).collect()
 }
@@ -132,9 +132,9 @@ fn rows_store(triple: [i16; 3]) -> Store {
 }
 
 /// A font with an MVAR, or what may be one.
-struct MvarFont {
-    font: Vec<u8>,
-    offset: u32,
+pub struct MvarFont {
+    pub font: Vec<u8>,
+    pub offset: u32,
     /// whether it is asked at every length
     cut: bool,
 }
@@ -151,7 +151,7 @@ fn placed(record_size: u16, records: &[Record], store: &Store, cut: bool) -> Mva
 
 /// With all tags, sorted and not, with one missing or refused, of no record, of no store, at offsets
 /// around the font's ends.
-fn mvar_fonts() -> Vec<MvarFont> {
+pub fn mvar_fonts() -> Vec<MvarFont> {
     let mut fonts = vec![];
     let mut sorted: Vec<Record> = (0..).zip(tags()).map(|(i, tag)| (tag, i, 0)).collect();
     sorted.sort();
@@ -216,10 +216,10 @@ fn mvar_fonts() -> Vec<MvarFont> {
     fonts
 }
 
-const LISTS: [&[i16]; 6] = [&[], &[0], &[8192], &[16384, -1], &[-1], &[5461, 4096, 1, 9]];
+pub const LISTS: [&[i16]; 6] = [&[], &[0], &[8192], &[16384, -1], &[-1], &[5461, 4096, 1, 9]];
 
 /// A y coordinate, or a minus for none.
-fn ordinate(random: &mut Random) -> String {
+pub fn ordinate(random: &mut Random) -> String {
     match random.below(3) {
         0 => text::EMPTY.to_string(),
         _ => bearing(random).to_string(),
@@ -242,7 +242,7 @@ fn advance(random: &mut Random) -> u16 {
     }
 }
 
-fn units(random: &mut Random) -> u16 {
+pub fn units(random: &mut Random) -> u16 {
     match random.below(3) {
         0 => random.bits() as u16,
         _ => random.pick(&UNITS),
@@ -250,7 +250,7 @@ fn units(random: &mut Random) -> u16 {
 }
 
 /// A float's bits: at a limit, any, or of an ordinary magnitude.
-fn float(random: &mut Random) -> u32 {
+pub fn float(random: &mut Random) -> u32 {
     match random.below(4) {
         0 => random.pick(&FLOATS),
         1 => random.bits() as u32,
@@ -354,7 +354,7 @@ fn of_glyph(
 }
 
 /// The offset 0 of an MVAR is that of none, so a byte comes before most.
-fn moved(font: &str, offset: &str, random: &mut Random) -> (String, u32) {
+pub fn moved(font: &str, offset: &str, random: &mut Random) -> (String, u32) {
     let offset = offset.parse().unwrap_or(0);
     if offset > 0 || random.below(8) == 0 {
         return (font.to_string(), offset);

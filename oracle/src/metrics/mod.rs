@@ -2,7 +2,7 @@
 //! answer.
 
 pub mod cases;
-mod rules;
+pub mod rules;
 
 use crate::private::internal::{set_unvaried, Unvaried};
 use crate::private::metrics::{GlyphMetrics, Metrics, MetricsProxy, VerticalNumbers};
@@ -72,21 +72,21 @@ pub const FUNCTIONS: [(&str, &[Kind]); 11] = [
 const MATERIALIZE: &str = "materialize_metrics";
 
 pub struct Case {
-    name: &'static str,
-    font: Vec<u8>,
-    offset: u32,
-    vertical: Vertical,
-    glyph: u16,
-    coords: Vec<i16>,
-    unvaried: Unvaried,
-    units_per_em: u16,
-    flag: bool,
-    scale: f32,
-    measures: Measures,
+    pub name: &'static str,
+    pub font: Vec<u8>,
+    pub offset: u32,
+    pub vertical: Vertical,
+    pub glyph: u16,
+    pub coords: Vec<i16>,
+    pub unvaried: Unvaried,
+    pub units_per_em: u16,
+    pub flag: bool,
+    pub scale: f32,
+    pub measures: Measures,
 }
 
 impl Case {
-    fn new(name: &'static str) -> Self {
+    pub fn new(name: &'static str) -> Self {
         Case {
             name,
             font: vec![],
@@ -129,7 +129,7 @@ impl Case {
     }
 }
 
-fn index(word: &str) -> Option<u16> {
+pub fn index(word: &str) -> Option<u16> {
     u16::try_from(text::natural(word)?).ok()
 }
 
@@ -138,7 +138,7 @@ fn half(word: &str) -> Option<i16> {
 }
 
 /// One that is missing is a minus.
-fn ordinate(word: &str) -> Option<Option<i16>> {
+pub fn ordinate(word: &str) -> Option<Option<i16>> {
     match word {
         text::EMPTY => Some(None),
         _ => half(word).map(Some),
@@ -277,7 +277,7 @@ impl Case {
     }
 
     /// What swash answers. It may panic.
-    fn rust(&self) -> Rust {
+    pub fn rust(&self) -> Rust {
         let font = FontRef { data: &self.font };
         let measures = |m: Metrics| Rust::Answer(value(&of_swash(m)));
         let glyph = |x: f32| Rust::Answer(value(&[x]));

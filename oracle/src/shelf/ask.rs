@@ -344,7 +344,7 @@ impl<'a> Asker<'a, '_> {
     /// The coordinate lists: none, the default, each axis end, all ends, the named instances with avar
     /// and without, the ends of the 2.14 range, random ones inside and outside, one too short and one
     /// too long each. Of very many the first are taken.
-    fn lists(&mut self) -> Vec<Vec<i16>> {
+    pub fn lists(&mut self) -> Vec<Vec<i16>> {
         let axes = self.axis_count();
         let count = axes.min(if self.brief { 4 } else { 64 });
         let mut lists = vec![vec![], vec![0; count]];
@@ -426,9 +426,10 @@ impl<'a> Asker<'a, '_> {
         }
     }
 
-    fn glyphs(&mut self, lists: &[Vec<i16>]) {
+    /// Each glyph, one past the last, and the last of all numbers. Of a damaged font some.
+    pub fn sample(&mut self) -> Vec<u16> {
         let count = self.font.glyphs;
-        let glyphs: Vec<u16> = if self.brief {
+        if self.brief {
             let mut some = vec![0, 1, 2, count.saturating_sub(1), count, 65535];
             for _ in 0..14 {
                 some.push(self.random.below(count as u64 + 1) as u16);
@@ -440,7 +441,11 @@ impl<'a> Asker<'a, '_> {
                 all.push(65535);
             }
             all
-        };
+        }
+    }
+
+    fn glyphs(&mut self, lists: &[Vec<i16>]) {
+        let glyphs = self.sample();
         let most = PAIRS / glyphs.len();
         if lists.len() > most {
             let left = lists.len() - most;

@@ -1,6 +1,9 @@
 //! Damage: fields of the variation tables set to limits, bytes changed, the font cut, the directory moved.
 
-use super::font::{record, u16_at, u32_at, FVAR, HVAR, MAXP, MVAR, VVAR};
+use super::font::{
+    record, u16_at, u32_at, FVAR, HHEA, HMTX, HVAR, LONG_RECORDS, MAXP, MVAR, VHEA, VMTX, VORG,
+    VVAR,
+};
 use crate::random::Random;
 
 /// What was done to a font, so that it can be undone, and told.
@@ -41,6 +44,7 @@ impl Damage {
 }
 
 /// The fields of a face's variation tables: where each is, and how many bytes it has.
+#[derive(Default)]
 pub struct Fields {
     fields: Vec<(usize, usize)>,
     /// start and length of each table
@@ -73,14 +77,7 @@ const MOST: usize = 12;
 
 impl Fields {
     pub fn of(data: &[u8], directory: usize) -> Self {
-        let mut all = Fields {
-            fields: vec![],
-            tables: vec![],
-            directory: vec![],
-            axes: vec![],
-            maps: vec![],
-            records: vec![],
-        };
+        let mut all = Fields::default();
         for tag in [FVAR, HVAR, VVAR, MVAR, MAXP] {
             let p = match record(data, directory, tag) {
                 Some(p) => p,
@@ -100,6 +97,47 @@ impl Fields {
             }
         }
         all
+    }
+
+    /// Those by which widths are read: the counts of long records, VORG's fields, hmtx, vmtx and VORG.
+    pub fn of_widths(data: &[u8], directory: usize) -> Self {
+        let mut all = Fields::default();
+        for tag in [HHEA, HMTX, VHEA, VMTX, VORG] {
+            let p = match record(data, directory, tag) {
+                Some(p) => p,
+                None => continue,
+            };
+            all.directory.extend([p + 8, p + 12]);
+            let start = u32_at(data, p + 8).unwrap_or(0) as usize;
+            if tag == HHEA || tag == VHEA {
+                // they weigh more
+                all.push(start, &[LONG_RECORDS; 8], 2);
+                continue;
+            }
+            all.tables
+                .push((start, u32_at(data, p + 12).unwrap_or(0) as usize));
+            if tag == VORG {
+                all.vorg(data, start);
+            }
+        }
+        // for bearings that vary
+        for tag in [HVAR, VVAR] {
+            let start = record(data, directory, tag).and_then(|p| u32_at(data, p + 8));
+            let map = start.map(|start| start as usize + 8);
+            all.maps
+                .extend(map.filter(|p| u32_at(data, *p).unwrap_or(0) != 0));
+        }
+        all
+    }
+
+    /// The default, the count, and some records: those that the search meets first, and the first ones.
+    fn vorg(&mut self, data: &[u8], start: usize) {
+        self.push(start, &[4, 6, 6, 6], 2);
+        let count = u16_at(data, start + 6).unwrap_or(0) as usize;
+        let met = (1..6).map(|k| count >> k);
+        for record in met.chain(0..count.min(MOST)) {
+            self.push(start + 8 + 4 * record, &[0, 2], 2);
+        }
     }
 
     fn push(&mut self, start: usize, places: &[usize], size: usize) {

@@ -1,11 +1,21 @@
 //! A font's tables, found by its directory as swash finds them (`RawFont::table_range`).
 
+use crate::widths::rules::Table;
+
 pub const AVAR: u32 = u32::from_be_bytes(*b"avar");
 pub const FVAR: u32 = u32::from_be_bytes(*b"fvar");
 pub const HVAR: u32 = u32::from_be_bytes(*b"HVAR");
 pub const VVAR: u32 = u32::from_be_bytes(*b"VVAR");
 pub const MVAR: u32 = u32::from_be_bytes(*b"MVAR");
 pub const MAXP: u32 = u32::from_be_bytes(*b"maxp");
+pub const HHEA: u32 = u32::from_be_bytes(*b"hhea");
+pub const HMTX: u32 = u32::from_be_bytes(*b"hmtx");
+pub const VHEA: u32 = u32::from_be_bytes(*b"vhea");
+pub const VMTX: u32 = u32::from_be_bytes(*b"vmtx");
+pub const VORG: u32 = u32::from_be_bytes(*b"VORG");
+
+/// Where hhea and vhea count the long records.
+pub const LONG_RECORDS: usize = 34;
 
 const COLLECTION: u32 = u32::from_be_bytes(*b"ttcf");
 /// The marks with which a font's directory starts.
@@ -97,6 +107,10 @@ pub struct Font<'a> {
     pub vvar: u32,
     pub mvar: u32,
     pub glyphs: u16,
+    /// hmtx and vmtx, each with the count of its long records and with its table of deltas
+    pub hmtx: Table,
+    pub vmtx: Table,
+    pub vorg: u32,
 }
 
 impl<'a> Font<'a> {
@@ -104,7 +118,12 @@ impl<'a> Font<'a> {
         let range = |tag| range(data, directory, tag);
         let offset = |tag| range(tag).map_or(0, |(start, _)| start);
         let fvar = range(FVAR).and_then(|(start, end)| data.get(start as usize..end as usize));
-        let glyphs = range(MAXP).and_then(|(start, _)| u16_at(data, start as usize + 4));
+        let number = |tag, p| range(tag).and_then(|(start, _)| u16_at(data, start as usize + p));
+        let widths = |xmtx, head, xvar| Table {
+            at: offset(xmtx),
+            count: number(head, LONG_RECORDS).unwrap_or(0),
+            xvar: offset(xvar),
+        };
         Font {
             data,
             fvar: fvar.unwrap_or(&[]),
@@ -113,7 +132,10 @@ impl<'a> Font<'a> {
             hvar: offset(HVAR),
             vvar: offset(VVAR),
             mvar: offset(MVAR),
-            glyphs: glyphs.unwrap_or(0),
+            glyphs: number(MAXP, 4).unwrap_or(0),
+            hmtx: widths(HMTX, HHEA, HVAR),
+            vmtx: widths(VMTX, VHEA, VVAR),
+            vorg: offset(VORG),
         }
     }
 }

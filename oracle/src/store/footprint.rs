@@ -180,14 +180,14 @@ pub fn tag(font: &[u8], offset: usize, tag: u32) -> Footprint {
 }
 
 /// The font that these bytes are, in hex with blanks between.
-fn font(bytes: &str) -> Vec<u8> {
+pub fn font(bytes: &str) -> Vec<u8> {
     let bytes: String = bytes.split_whitespace().collect();
     text::bytes(&bytes).expect("bytes in hex")
 }
 
 /// Asserts that a footprint covers just these bytes, from the first to the last of each pair, and
 /// uses just these axes.
-fn is(footprint: Footprint, font: &[u8], bytes: &[(usize, usize)], axes: &[usize]) {
+pub fn is(footprint: Footprint, font: &[u8], bytes: &[(usize, usize)], axes: &[usize]) {
     let mut wanted = vec![false; font.len()];
     for (first, last) in bytes {
         wanted[*first..=*last].fill(true);
@@ -201,7 +201,7 @@ fn advance(font: &[u8], glyph: usize) -> Footprint {
     metric(font, 4, Map::Advance, glyph)
 }
 
-const S1: &str = "00000000 00010000 00000010 00000000 00000000 0001 0000000c 0001 00000016
+pub const S1: &str = "00000000 00010000 00000010 00000000 00000000 0001 0000000c 0001 00000016
     0001 0001 0000 4000 4000 0001 0000 0001 0000 64";
 
 /// Asserts what was found by hand.

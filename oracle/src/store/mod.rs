@@ -2,7 +2,7 @@
 //! rules' answer.
 
 pub mod cases;
-mod footprint;
+pub mod footprint;
 pub mod rules;
 pub mod twins;
 

@@ -14,6 +14,8 @@ pub enum Phase {
     Filled,
     /// filled, and with half of each item count
     Halved,
+    /// hmtx, vmtx, VORG and the counts of their records
+    Widths,
     Damaged,
 }
 
@@ -151,13 +153,16 @@ impl Font {
         self.data.extend(hex(behind)?);
         self.phase = phase;
         let more = self.data.len() - self.whole;
-        self.done = format!(
-            ", filled: VVAR at {}, MVAR at {}, {} bytes more, set {}",
-            vvar,
-            mvar,
-            more,
-            changes.join(" ")
-        );
+        self.done = match phase {
+            Phase::Widths => format!(", with these bytes behind it: {}", behind),
+            _ => format!(
+                ", filled: VVAR at {}, MVAR at {}, {} bytes more, set {}",
+                vvar,
+                mvar,
+                more,
+                changes.join(" ")
+            ),
+        };
         Ok(())
     }
 
@@ -167,6 +172,7 @@ impl Font {
             Phase::AsItIs => "",
             Phase::Filled => ", filled",
             Phase::Halved => ", filled, item counts halved",
+            Phase::Widths => ", hmtx, vmtx and VORG damaged",
             Phase::Damaged => ", avar damaged",
         };
         format!("{}, face {}{}", self.name, self.face, state)

@@ -2,6 +2,7 @@
 
 use crate::axes::rules::Answer;
 use crate::deciding::{Decided, WHYS};
+use crate::falling::{Falls, FALLS};
 use crate::store::rules::{Rows, COUNTED, UNCOUNTED};
 use std::fmt::Debug;
 
@@ -23,9 +24,20 @@ pub enum Function {
     AdvanceHeight,
     Tsb,
     VerticalOrigin,
+    HmtxAdvance,
+    HmtxSb,
+    VmtxAdvance,
+    VmtxSb,
+    Vorg,
+    AdjustedWidth,
+    AdjustedLsb,
+    AdjustedHeight,
+    AdjustedTsb,
+    VorgOrigin,
+    TopOrigin,
 }
 
-pub const FUNCTIONS: [&str; 16] = [
+pub const FUNCTIONS: [&str; 27] = [
     "axis_count, instance_count",
     "axis",
     "axis_by_tag",
@@ -42,6 +54,17 @@ pub const FUNCTIONS: [&str; 16] = [
     "advance_height",
     "tsb",
     "vertical_origin",
+    "xmtx_advance, hmtx",
+    "xmtx_sb, hmtx",
+    "xmtx_advance, vmtx",
+    "xmtx_sb, vmtx",
+    "vorg_origin",
+    "adjusted_advance, hmtx and HVAR",
+    "adjusted_sb, hmtx and HVAR",
+    "adjusted_advance, vmtx and VVAR",
+    "adjusted_sb, vmtx and VVAR",
+    "vertical_origin of vorg_origin",
+    "vertical_origin of xmtx_sb",
 ];
 
 /// What the Rust does.
@@ -65,6 +88,8 @@ pub struct Tally {
     pub stops: u64,
     /// what they say where a row outside its subtable's item count is met, whatever the Rust does
     pub outside: u64,
+    /// the refusal of the rules where the Rust answers what it has in the place of what can't be read
+    pub falls: u64,
     pub differences: u64,
 }
 
@@ -76,6 +101,7 @@ impl Tally {
         self.none += other.none;
         self.stops += other.stops;
         self.outside += other.outside;
+        self.falls += other.falls;
         self.differences += other.differences;
     }
 
@@ -87,26 +113,42 @@ impl Tally {
             self.stops,
             self.decided,
             self.outside,
+            self.falls,
             self.differences,
         ]
     }
 }
 
-pub const COLUMNS: [&str; 7] = [
+pub const COLUMNS: [&str; 8] = [
     "cases",
     "equal",
     "None",
     "Rust stops",
     "01 decides",
     "past count",
+    "ours refuses",
     "differences",
 ];
 
-/// All that is counted of one state of a font, with the coordinates where document 01 decides, by the reason.
+/// All that is counted of one state of a font, with the coordinates where document 01 decides, and with what ours refuses
+/// to read, by the reason.
 #[derive(Clone, Copy, Default)]
 pub struct Counts {
     pub functions: [Tally; FUNCTIONS.len()],
     pub whys: [u64; WHYS.len()],
+    pub falls: [u64; FALLS.len()],
+}
+
+/// What is read from a font.
+pub struct Read {
+    /// by the rules
+    pub said: Answer<f32>,
+    /// by the second model, of what swash reads; none where it stops
+    pub theirs: Option<f32>,
+    /// whether a row outside its subtable's item count is met
+    pub outside: bool,
+    /// what swash has where the rules refuse
+    pub falls: Option<Falls>,
 }
 
 /// Floats by the rules.
@@ -292,6 +334,48 @@ impl Judge {
             done += &format!(", without the item count {:?}", theirs.floats);
         }
         let texts = [format!("{:?}", ours), done, format!("{:?}", said.floats)];
+        self.difference(function, arguments(), texts);
+    }
+
+    /// A number or a metric that is read from the font. Ours is what the rules say, and the Rust's what the second model
+    /// says; the two are one where nothing is refused and no row outside an item count is met.
+    pub fn read(
+        &mut self,
+        function: Function,
+        arguments: impl Fn() -> String,
+        rust: Option<f32>,
+        ours: Answer<f32>,
+        read: Read,
+    ) {
+        let tally = &mut self.counts.functions[function as usize];
+        tally.cases += 1;
+        let fits = match (rust, read.theirs) {
+            (Some(x), Some(y)) => same(&[x], &[y]),
+            (x, y) => x.is_none() && y.is_none(),
+        };
+        let as_said = match (&ours, &read.said) {
+            (Ok(x), Ok(y)) => same(&[*x], &[*y]),
+            (x, y) => x == y,
+        };
+        if fits && as_said {
+            let count = match (rust, &ours, read.falls) {
+                (None, _, _) => Some(&mut tally.stops),
+                (Some(_), Err(_), Some(falls)) => {
+                    self.counts.falls[falls as usize] += 1;
+                    Some(&mut tally.falls)
+                }
+                (Some(_), Ok(_), _) if read.outside => Some(&mut tally.outside),
+                (Some(x), Ok(y), _) if same(&[x], &[*y]) => Some(&mut tally.equal),
+                _ => None,
+            };
+            if let Some(count) = count {
+                *count += 1;
+                return;
+            }
+        }
+        let text = |x: Option<f32>| x.map_or("a stop".to_string(), |x| format!("{:?}", x));
+        let done = format!("{}, by its own rule {}", text(rust), text(read.theirs));
+        let texts = [answer_text(&ours), done, answer_text(&read.said)];
         self.difference(function, arguments(), texts);
     }
 }

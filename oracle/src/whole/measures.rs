@@ -3,13 +3,14 @@
 use crate::font::Font;
 use crate::judge::{Floats, Function, Judge};
 use crate::metrics::rules::{self, scale_for, scaled, Measures, Place};
+use crate::reading::{Reader, Tables};
 use crate::store::rules::{Map, Rows, COUNTED, UNCOUNTED};
 use crate::suolluvik::{self, GlyphMetrics};
 use crate::text::{self, halves, EMPTY};
 
 /// How what is asked is scaled.
 #[derive(Clone, Copy)]
-enum Scale {
+pub enum Scale {
     Plain,
     Ppem(f32),
     Linear(f32),
@@ -25,14 +26,29 @@ struct Unvaried {
     y: Option<i16>,
 }
 
+impl Unvaried {
+    fn five(self) -> [Option<f32>; 5] {
+        let [width, height] = [self.width, self.height].map(|n| Some(f32::from(n)));
+        let [lsb, tsb] = [self.lsb, self.tsb].map(|n| Some(f32::from(n)));
+        [width, lsb, height, tsb, self.y.map(f32::from)]
+    }
+}
+
 /// A place at which glyphs are asked for: ours, and the same by the rules.
-struct At {
-    coords: Vec<i16>,
+pub struct At {
+    pub coords: Vec<i16>,
     scale: Scale,
-    ours: GlyphMetrics,
+    pub ours: GlyphMetrics,
     counted: Materialized,
     uncounted: Materialized,
-    rule_scale: f32,
+    pub rule_scale: f32,
+}
+
+impl At {
+    /// Whether swash stops on the way to every glyph.
+    pub fn stops(&self) -> bool {
+        self.uncounted.refused_by_5
+    }
 }
 
 /// The vertical case by one of the two models of the store.
@@ -63,6 +79,9 @@ pub struct Metrics {
     measures: Measures,
     vertical: Option<suolluvik::Vertical>,
     glyphs: Vec<Option<Unvaried>>,
+    tables: Tables,
+    /// each glyph's yMax, if that is known
+    tops: Vec<Option<Option<i16>>>,
     at: Option<At>,
 }
 
@@ -93,13 +112,27 @@ fn unvaried(words: &str) -> Option<Unvaried> {
             lsb: lsb.parse().ok()?,
             height: height.parse().ok()?,
             tsb: tsb.parse().ok()?,
-            y: match y {
-                EMPTY => None,
-                y => Some(y.parse().ok()?),
-            },
+            y: ordinate(y)?,
         }),
         _ => None,
     }
+}
+
+/// A number, or that there is none.
+fn ordinate(word: &str) -> Option<Option<i16>> {
+    match word {
+        EMPTY => Some(None),
+        y => y.parse().ok().map(Some),
+    }
+}
+
+/// The five answers of a line; one that is missing stops.
+fn answers(words: &str) -> Option<Vec<Option<f32>>> {
+    let answer = |word| match word {
+        "stops" => Some(None),
+        word => float(word).map(Some),
+    };
+    words.split(',').map(answer).collect()
 }
 
 impl Metrics {
@@ -133,11 +166,28 @@ impl Metrics {
                     },
                 });
                 self.glyphs.clear();
+                self.tops.clear();
             }
+            ("tables", words) => self.tables = Tables::of(font, words)?,
             ("glyph", [glyph, numbers]) => {
                 self.glyphs.resize(1 << 16, None);
-                let glyph: usize = glyph.parse().ok()?;
-                self.glyphs[glyph] = Some(unvaried(numbers)?);
+                self.tops.resize(1 << 16, None);
+                let (glyph, numbers): (u16, _) = (glyph.parse().ok()?, unvaried(numbers)?);
+                self.glyphs[usize::from(glyph)] = Some(numbers);
+                self.tops[usize::from(glyph)] = Some(numbers.y);
+                self.reader(judge, font)?.numbers(glyph, numbers.five());
+            }
+            ("plain", [glyph, answer]) => {
+                let five = answers(answer)?.try_into().ok()?;
+                self.reader(judge, font)?.numbers(glyph.parse().ok()?, five);
+            }
+            ("top", [glyph, y]) => {
+                self.tops.resize(1 << 16, None);
+                let glyph: u16 = glyph.parse().ok()?;
+                self.tops[usize::from(glyph)] = Some(ordinate(y)?);
+            }
+            ("read", [glyph, answer]) => {
+                self.read(judge, font, glyph.parse().ok()?, &answers(answer)?)?
             }
             ("at", [coords, kind, x]) => {
                 self.at = Some(self.at(font, halves(coords)?, scale_of(kind, x)?)?);
@@ -254,12 +304,9 @@ impl Metrics {
                 .vertical_origin(data, glyph, coords, unvaried.tsb, unvaried.y)
                 .ok()?,
         ];
-        let mut words = answer.split(',');
+        let answers = answers(answer)?;
         for (k, ours) in ours.iter().enumerate() {
-            let rust = match words.next()? {
-                "stops" => None,
-                word => Some([float(word)?]),
-            };
+            let rust = answers.get(k)?.map(|float| [float]);
             let rule = |rows| self.rule(font, at, rows, glyph, unvaried, k);
             let arguments = || {
                 format!(
@@ -273,6 +320,30 @@ impl Metrics {
             let rust = rust.as_ref().map(|float| &float[..]);
             judge.floats(GLYPHS[k], arguments, rust, &[*ours], rule);
         }
+        self.read(judge, font, glyph, &answers)
+    }
+
+    fn reader<'a>(&self, judge: &'a mut Judge, font: &'a Font) -> Option<Reader<'a>> {
+        Some(Reader {
+            judge,
+            font,
+            tables: self.tables,
+            vertical: self.vertical?,
+            units_per_em: self.units_per_em,
+        })
+    }
+
+    /// The same metrics, read from the font.
+    fn read(
+        &self,
+        judge: &mut Judge,
+        font: &Font,
+        glyph: u16,
+        answers: &[Option<f32>],
+    ) -> Option<()> {
+        let top = self.tops.get(usize::from(glyph)).copied().flatten();
+        let at = self.at.as_ref().filter(|_| answers.len() == 5)?;
+        self.reader(judge, font)?.glyph(at, glyph, top, answers);
         Some(())
     }
 

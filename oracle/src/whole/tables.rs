@@ -2,19 +2,24 @@
 //! decides.
 
 use crate::deciding::WHYS;
+use crate::falling::FALLS;
 use crate::font::{Font, Phase};
 use crate::judge::{Counts, Tally, COLUMNS, FUNCTIONS};
 use std::collections::BTreeMap;
 use std::fmt::Display;
 
 /// Each state of a font is counted apart.
-const PHASES: [(Phase, &str); 4] = [
+const PHASES: [(Phase, &str); 5] = [
     (Phase::AsItIs, "The fonts as they are"),
     (
         Phase::Filled,
         "The fonts filled: maps of bearings, every tag in MVAR, vertical metrics",
     ),
     (Phase::Halved, "Filled, and with half of each item count"),
+    (
+        Phase::Widths,
+        "With hmtx, vmtx, VORG or a count of long records damaged",
+    ),
     (Phase::Damaged, "With avar damaged"),
 ];
 
@@ -48,6 +53,9 @@ impl Row {
         }
         for (why, more) in self.counts.whys.iter_mut().zip(&other.whys) {
             *why += more;
+        }
+        for (falls, more) in self.counts.falls.iter_mut().zip(&other.falls) {
+            *falls += more;
         }
     }
 
@@ -102,6 +110,7 @@ impl Tables {
         let longest = names
             .chain(FUNCTIONS.map(str::len))
             .chain(WHYS.map(str::len))
+            .chain(FALLS.map(str::len))
             .max()
             .unwrap_or(0);
         for (phase, title) in PHASES {
@@ -146,6 +155,13 @@ fn print_phase(longest: usize, rows: &[(&(Phase, String), &Row)]) {
         println!();
         print_row(longest, "why 01 decides", &["coordinates"]);
         for (name, count) in WHYS.iter().zip(&total.counts.whys) {
+            print_row(longest, name, &[count]);
+        }
+    }
+    if total.counts.falls.iter().any(|count| *count > 0) {
+        println!();
+        print_row(longest, "what swash has where ours refuses", &["cases"]);
+        for (name, count) in FALLS.iter().zip(&total.counts.falls) {
             print_row(longest, name, &[count]);
         }
     }

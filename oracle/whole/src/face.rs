@@ -63,6 +63,25 @@ pub fn offset(font: &FontRef, tag: &[u8; 4]) -> usize {
     record(font, tag).and_then(range).unwrap_or(0)
 }
 
+/// Where swash has hmtx and vmtx, each with how many long records it counts, and VORG. With no hhea it counts one;
+/// without a vhea it does not look for vmtx.
+pub fn widths(font: &FontRef) -> [usize; 5] {
+    let count = |tag| {
+        let head = font.table(tag_from_bytes(tag))?;
+        let number = head.get(34..36).map(|n| [n[0], n[1]]);
+        Some(number.map_or(0, u16::from_be_bytes) as usize)
+    };
+    let upright = count(b"vhea");
+    let vmtx = upright.map_or(0, |_| offset(font, b"vmtx"));
+    [
+        offset(font, b"hmtx"),
+        count(b"hhea").unwrap_or(1),
+        vmtx,
+        upright.unwrap_or(0),
+        offset(font, b"VORG"),
+    ]
+}
+
 /// Where the directory has a table's record, by halves, as swash looks for it: what it misses, where the records
 /// are out of order, is not there.
 pub fn record(font: &FontRef, tag: &[u8; 4]) -> Option<usize> {
@@ -81,14 +100,46 @@ pub fn record(font: &FontRef, tag: &[u8; 4]) -> Option<usize> {
     None
 }
 
+/// Where the directory has the last letters of the tables by which a measure varies.
+fn last_letters(face: &Face) -> Vec<usize> {
+    let tags = [b"HVAR", b"VVAR", b"MVAR"];
+    let records = tags.iter().filter_map(|tag| record(&face.font, tag));
+    records.map(|p| p + 3).collect()
+}
+
 /// A copy of the font in which nothing varies: swash finds none of the tables by which a measure does. The
 /// new tags keep the directory in order.
 pub fn unvaried(face: &Face) -> Vec<u8> {
     let mut copy = face.font.data.to_vec();
-    for tag in [b"HVAR", b"VVAR", b"MVAR"] {
-        if let Some(p) = record(&face.font, tag) {
-            copy[p + 3] = b'Q';
-        }
+    for p in last_letters(face) {
+        copy[p] = b'Q';
     }
     copy
+}
+
+/// Whether swash reads a glyph's numbers from these letters, as where a table is at the font's start or reaches into
+/// the directory: there such a copy has others.
+pub fn meets_tags(face: &Face, glyph: u16) -> bool {
+    let [hmtx, long, vmtx, upright, vorg] = widths(&face.font);
+    let glyph = glyph as usize;
+    let read = |at: usize, count: usize| {
+        let sb = match glyph < count {
+            true => 4 * glyph + 2,
+            false => 4 * count + 2 * (glyph - count),
+        };
+        [at + 4 * glyph.min(count.saturating_sub(1)), at + sb].map(|p| p..p + 2)
+    };
+    let mut places = read(hmtx, long).to_vec();
+    if vmtx != 0 {
+        places.extend(read(vmtx, upright));
+    }
+    if vorg != 0 {
+        let count = face.font.data.get(vorg + 6..vorg + 8);
+        let count = count.map_or(0, |n| u16::from_be_bytes([n[0], n[1]]) as usize);
+        places.push(vorg..vorg + 8 + 4 * count);
+    }
+    let letters = last_letters(face);
+    letters
+        .iter()
+        .any(|p| places.iter().any(|read| read.contains(p)))
 }

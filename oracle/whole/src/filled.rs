@@ -21,9 +21,9 @@ const TAGS: [&[u8; 4]; 11] = [
 type Change = (usize, Vec<u8>);
 
 /// What the directory has of a table behind its tag.
-type Place = [u8; 12];
+pub type Place = [u8; 12];
 
-fn u16_at(data: &[u8], p: usize) -> Option<usize> {
+pub fn u16_at(data: &[u8], p: usize) -> Option<usize> {
     let bytes = data.get(p..p + 2)?;
     Some(u16::from_be_bytes([bytes[0], bytes[1]]) as usize)
 }
@@ -93,7 +93,7 @@ fn mvar(font: &FontRef) -> Option<Vec<u8>> {
 }
 
 /// The horizontal tables once more, for vertical type.
-fn upright(font: &FontRef) -> Option<Vec<(&'static [u8; 4], Place)>> {
+pub fn upright(font: &FontRef) -> Option<Vec<(&'static [u8; 4], Place)>> {
     let of = |(tag, like)| {
         let p = record(font, like)?;
         Some((tag, font.data[p + 4..p + 16].try_into().ok()?))
@@ -104,8 +104,16 @@ fn upright(font: &FontRef) -> Option<Vec<(&'static [u8; 4], Place)>> {
         .collect()
 }
 
+/// What it has of a table with this start and length.
+pub fn at(start: usize, length: usize) -> Place {
+    let mut place = [0; 12];
+    place[4..8].copy_from_slice(&(start as u32).to_be_bytes());
+    place[8..].copy_from_slice(&(length as u32).to_be_bytes());
+    place
+}
+
 /// The directory with some tables more, or with others in the place of those that it has.
-fn directory(font: &FontRef, tables: &[(&[u8; 4], Place)]) -> Option<Vec<u8>> {
+pub fn directory(font: &FontRef, tables: &[(&[u8; 4], Place)]) -> Option<Vec<u8>> {
     let start = font.offset as usize;
     let count = u16_at(font.data, start + 4)?;
     let mut records: Vec<Vec<u8>> = font
@@ -139,10 +147,7 @@ fn one(lines: &mut Lines, face: &Face, filling: Filling, random: &mut Random) ->
     let Filling { mvar, changes, .. } = filling;
     let mut copy = face.font.data.to_vec();
     change(&mut copy, &changes);
-    let mut place = [0; 12];
-    place[4..8].copy_from_slice(&(copy.len() as u32).to_be_bytes());
-    place[8..].copy_from_slice(&(mvar.len() as u32).to_be_bytes());
-    let mut tables = vec![(b"MVAR", place)];
+    let mut tables = vec![(b"MVAR", at(copy.len(), mvar.len()))];
     if filling.vertical {
         tables.extend(upright(&face.font)?);
     }

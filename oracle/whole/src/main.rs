@@ -15,6 +15,7 @@ mod metrics;
 mod random;
 #[allow(dead_code)]
 mod text;
+mod widths;
 
 use face::Face;
 use files::Files;
@@ -29,8 +30,8 @@ use std::process::ExitCode;
 use swash::FontDataRef;
 
 const USAGE: &str = "\
-whole fonts FOLDER ROUNDS SEED       the fonts below FOLDER, as they are, then each with its avar damaged
-                                     ROUNDS times by random from SEED
+whole fonts FOLDER ROUNDS SEED       the fonts below FOLDER, as they are, then each with its hmtx, vmtx and VORG
+                                     damaged ROUNDS times by random from SEED, then with its avar
 whole made                           maps that were made by hand
 ";
 
@@ -85,6 +86,9 @@ fn file(lines: &mut Lines, folder: &Path, path: &Path, rounds: u64, seed: u64) -
         axes::ask(lines, &face, random);
         metrics::ask(lines, &face, metrics::PAIRS, random);
         filled::ask(lines, &face, random);
+        // other numbers than the avar's
+        let seeds = |round| Random::new(seed_of(!seed, &name, index, round));
+        widths::ask(lines, &face, rounds, seeds);
         for round in 0..rounds {
             let random = &mut Random::new(seed_of(seed, &name, index, round));
             maps::damage(lines, &mut data, index, random);

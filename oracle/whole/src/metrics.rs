@@ -13,7 +13,7 @@ pub const PAIRS: usize = 60_000;
 
 /// How what is asked is scaled.
 #[derive(Clone, Copy)]
-enum Scale {
+pub enum Scale {
     Plain,
     Ppem(f32),
     Linear(f32),
@@ -21,7 +21,7 @@ enum Scale {
 
 use Scale::{Linear, Plain, Ppem};
 
-const SCALES: [Scale; 13] = [
+pub const SCALES: [Scale; 13] = [
     Plain,
     Ppem(-16.),
     Ppem(16.),
@@ -126,6 +126,15 @@ fn ask_all(
     let by_glyf = by_glyf(face, &plain);
     let glyphs = glyphs(plain.measures.glyph_count, by_glyf);
     vertical(lines, face, &plain.glyphs);
+    tables(lines, face.font);
+    let apart = |glyph: &u16| !face::meets_tags(face, *glyph);
+    let (glyphs, others): (Vec<u16>, Vec<u16>) = glyphs.into_iter().partition(apart);
+    if !others.is_empty() {
+        lines.leave(&format!(
+            "{} glyphs: swash has their numbers from the directory, in which a copy has other tags",
+            others.len()
+        ));
+    }
     let glyphs = numbers(lines, &plain.glyphs, &other.glyphs, by_glyf, &glyphs);
     let most = (pairs / glyphs.len().max(1)).max(3);
     if most < lists.len() {
@@ -133,18 +142,23 @@ fn ask_all(
         lines.put("lists left out", &[name]);
     }
     for (k, list) in lists.iter().take(most).enumerate() {
-        at(lines, face.font, list, SCALES[k % SCALES.len()], &glyphs);
+        let scale = SCALES[k % SCALES.len()];
+        at(lines, face.font, list, scale, "metrics", &glyphs);
     }
     Ok(())
 }
 
-fn measures(lines: &mut Lines, font: FontRef, plain: &Metrics, lists: &[Vec<i16>]) {
+pub fn unvaried(lines: &mut Lines, plain: &Metrics) {
     let vertical = plain.has_vertical_metrics as u8;
     let numbers = [plain.units_per_em.to_string(), vertical.to_string()];
     lines.put(
         "unvaried",
         &[&numbers[..], &[measures_text(*plain)]].concat(),
     );
+}
+
+fn measures(lines: &mut Lines, font: FontRef, plain: &Metrics, lists: &[Vec<i16>]) {
+    unvaried(lines, plain);
     for list in lists {
         for scale in SCALES {
             let answer = asked(|| measures_text(scale.measures(font.metrics(list))));
@@ -159,7 +173,7 @@ fn measures(lines: &mut Lines, font: FontRef, plain: &Metrics, lists: &[Vec<i16>
 
 /// Which of swash's three cases of vertical type the font is, as its metrics.rs finds it; where MVAR is for
 /// that; the two floats of the synthesized case.
-fn vertical(lines: &mut Lines, face: &Face, metrics: &GlyphMetrics) {
+pub fn vertical(lines: &mut Lines, face: &Face, metrics: &GlyphMetrics) {
     let synthesized = !metrics.has_vertical_metrics();
     let case = match (synthesized, face::offset(&face.font, b"VORG") != 0) {
         (true, _) => 2,
@@ -174,6 +188,11 @@ fn vertical(lines: &mut Lines, face: &Face, metrics: &GlyphMetrics) {
     };
     let words = [case.to_string(), (no_mvar as u8).to_string()];
     lines.put("vertical", &[&words[..], &floats.map(float_text)].concat());
+}
+
+/// From where swash reads a glyph's numbers.
+pub fn tables(lines: &mut Lines, font: FontRef) {
+    lines.put("tables", &face::widths(&font).map(|n| n.to_string()));
 }
 
 /// Whether swash has a glyph's vertical origin from its yMax.
@@ -200,11 +219,16 @@ fn alike(face: &Face, copy: &[u8]) -> Vec<u8> {
     other
 }
 
-/// The five unvaried numbers of each glyph. A bearing of 257 for all glyphs shows swash's yMax, and whether it
-/// has one: its origin is yMax + 257, and at scale 2 twice yMax and four times 257, since the bearing is
-/// scaled twice; without a yMax it is just twice as much. Answers the glyphs that have the five: where swash
-/// stops on one of them, or has the bearing from behind vmtx, so that yMax does not show, there is nothing to
-/// hand to ours.
+/// A bearing of 257 for all glyphs shows swash's yMax, and whether it has one: its origin is yMax + 257, and at
+/// scale 2 twice yMax and four times 257, since the bearing is scaled twice; without a yMax it is just twice as
+/// much.
+pub fn y_max(other: &GlyphMetrics, glyph: u16) -> Option<f32> {
+    let [once, twice] = [1., 2.].map(|scale| other.linear_scale(scale).vertical_origin(glyph));
+    (twice != 2. * once).then_some(once - 257.)
+}
+
+/// The five unvaried numbers of each glyph. Answers the glyphs that have the five: where swash stops on one of
+/// them, or has the bearing from behind vmtx, so that yMax does not show, there is nothing to hand to ours.
 fn numbers(
     lines: &mut Lines,
     metrics: &GlyphMetrics,
@@ -213,12 +237,9 @@ fn numbers(
     glyphs: &[u16],
 ) -> Vec<u16> {
     let synthesized = !metrics.has_vertical_metrics();
-    let y = |glyph| {
-        let [once, twice] = [1., 2.].map(|scale| other.linear_scale(scale).vertical_origin(glyph));
-        match by_glyf {
-            true => (twice != 2. * once).then_some(once - 257.),
-            false => Some(metrics.vertical_origin(glyph)),
-        }
+    let y = |glyph| match by_glyf {
+        true => y_max(other, glyph),
+        false => Some(metrics.vertical_origin(glyph)),
     };
     let mut found = vec![];
     for &glyph in glyphs {
@@ -255,14 +276,22 @@ fn numbers(
     found
 }
 
-fn at(lines: &mut Lines, font: FontRef, list: &[i16], scale: Scale, glyphs: &[u16]) {
+/// The five of each glyph, each in a line of that kind.
+pub fn at(
+    lines: &mut Lines,
+    font: FontRef,
+    list: &[i16],
+    scale: Scale,
+    kind: &str,
+    glyphs: &[u16],
+) {
     let words = [coords_text(list.iter().copied())];
     lines.put("at", &[&words[..], &scale.words()].concat());
     // MVAR varies the synthesized case here; where that stops, no glyph has an answer
     let metrics = tried(|| scale.glyphs(font.glyph_metrics(list)));
     for &glyph in glyphs {
         let answers = metrics.map_or([STOPS; 5].map(str::to_string), |m| five(&m, glyph));
-        lines.put("metrics", &[glyph.to_string(), answers.join(",")]);
+        lines.put(kind, &[glyph.to_string(), answers.join(",")]);
     }
 }
 

@@ -63,7 +63,6 @@ pub record Requests : Type 0 where
       × (mvarDelta one-of-two 2 hasc coords ≡ refused 3)
       × (mvarDelta one-of-two 2 hdsc (pos 16384 ∷ []) ≡ value (negative 6553600))
       × (mvarDelta (with-byte 67 0 sorted) 2 hdsc coords ≡ refused 3)
-
   -- Widths from the font: hmtx or vmtx, VORG, and the adjusted width from one call. s1-hmtx is S1's font, with HVAR at 4, and behind it, at 51, an hmtx: two long records, 500 with -10 and 65535 with 20, then the bearings 30 and
   -- -40. origins has a VORG at 2: the default 880, and records of the glyphs 5, 7 and 9.
   pub W-202 :

@@ -310,7 +310,7 @@ const SAMPLE_OF_AVAR: usize = 500;
 const SAMPLE_OF_COUNTS: usize = 400;
 
 /// Lines of widths, behind all others.
-const SAMPLE_OF_WIDTHS: usize = 640;
+const SAMPLE_OF_WIDTHS: usize = 653;
 
 fn run(words: &[&str]) -> Option<bool> {
     match *words {

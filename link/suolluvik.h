@@ -18,8 +18,8 @@
  * number that its four letters make, the first one highest: wght is 0x77676874.
  *
  * The answers are swash's, also where OpenType says something else, but for avar maps that OpenType does not allow, for rows
- * past a subtable's item count, and for what can't be read of hmtx, vmtx and VORG, which is refused, where swash has 0 or
- * the units per em; docs/DIFFERENCES.md has each such place. Two are met in many fonts: an instance's PostScript name id is
+ * past a subtable's item count, and for what hmtx, vmtx and VORG do not have, which is refused, where swash has some number;
+ * docs/DIFFERENCES.md has each such place. Two are met in many fonts: an instance's PostScript name id is
  * not the one that OpenType means, and of MVAR's records most are refused. */
 #ifndef SUOLLUVIK_H
 #define SUOLLUVIK_H

@@ -12,8 +12,8 @@
 //! The thread's float environment rounds to nearest and flushes nothing to zero, as a Rust program's does.
 //!
 //! The answers are swash's, also where OpenType says something else, but for avar maps that OpenType does not allow, for rows
-//! past a subtable's item count, and for what can't be read of hmtx, vmtx and VORG, which is refused, where swash has 0 or the
-//! units per em; `docs/DIFFERENCES.md` has each such place.
+//! past a subtable's item count, and for what hmtx, vmtx and VORG do not have, which is refused, where swash has some number;
+//! `docs/DIFFERENCES.md` has each such place.
 
 // `tests/prototypes` holds these to the library's source.
 mod exports {

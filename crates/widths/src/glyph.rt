@@ -1,6 +1,7 @@
 // The measures of a glyph by what is the same for all glyphs of a font, each from one call: the offsets and counts that `GlyphMetrics` keeps are read here. For yMax there is no reader: with glyf the caller gives it.
 use crate::adjusted::FloatAnswer;
-use crate::adjusted::adjusted;
+use crate::adjusted::adjusted_advance;
+use crate::adjusted::adjusted_sb;
 use crate::adjusted::unvaried;
 use crate::vorg;
 use crate::xmtx;
@@ -23,28 +24,23 @@ ghost use Rattle.widths.specs.Answers.{outcomeF32, ordinateOutcome};
 pub fn advance_width(m: GlyphMetrics, font: &[u8], glyph_id: u16, coords: &[i16]) -> FloatAnswer
     ensures { λ r. ⌜ outcomeF32 r ≡ readLevel (now (font .entry)) advance «glyph_id» (now (coords .entry)) (glyphsOf m) ⌝ }
 {
-    level(m, font, Measure::Advance, glyph_id, coords)
+    adjusted_advance(
+        font,
+        m.hmtx,
+        m.hmtx_count,
+        m.hvar,
+        glyph_id,
+        coords,
+        m.scale,
+    )
 }
 
 // Its left side bearing.
 pub fn lsb(m: GlyphMetrics, font: &[u8], glyph_id: u16, coords: &[i16]) -> FloatAnswer
     ensures { λ r. ⌜ outcomeF32 r ≡ readLevel (now (font .entry)) bearing «glyph_id» (now (coords .entry)) (glyphsOf m) ⌝ }
 {
-    level(m, font, Measure::Bearing, glyph_id, coords)
-}
-
-fn level(
-    m: GlyphMetrics,
-    font: &[u8],
-    measure: Measure,
-    glyph_id: u16,
-    coords: &[i16],
-) -> FloatAnswer
-    ensures { λ r. ⌜ outcomeF32 r ≡ readLevel (now (font .entry)) (measureOf measure) «glyph_id» (now (coords .entry)) (glyphsOf m) ⌝ }
-{
-    adjusted(
+    adjusted_sb(
         font,
-        measure,
         m.hmtx,
         m.hmtx_count,
         m.hvar,

@@ -194,13 +194,14 @@ uint8_t suolluvik_xmtx_advance(const uint8_t *font, size_t font_len, uint32_t xm
 uint8_t suolluvik_xmtx_sb(const uint8_t *font, size_t font_len, uint32_t xmtx, uint16_t long_metric_count,
                           uint16_t glyph_id, int16_t *value);
 
-/* The y of a glyph's vertical origin, unvaried, by the VORG at the offset vorg: that of its record, or the default where none
- * is found; they are searched by halving. An offset of 0 is refused by 1, else a read past the font's end by 2. */
+/* The y of a glyph's vertical origin, unvaried, by the VORG at the offset vorg, whose records are searched by halving: that of
+ * the glyph's record, or the default where none is found. An offset of 0 is refused by 1, else a read past the font's end by
+ * 2. */
 uint8_t suolluvik_vorg_origin(const uint8_t *font, size_t font_len, uint32_t vorg, uint16_t glyph_id, int16_t *value);
 
-/* The advance of a glyph at some coordinates, and its bearing, in one call: (unvaried + delta) * scale with the unvaried one
- * of hmtx or vmtx, and with the delta by the HVAR or VVAR at the offset xvar, 0 for none. Refused by 5, 1 and 2 as the unvaried
- * one is; a refused delta is 0. */
+/* The advance of a glyph at some coordinates, and its bearing, each in one call: (unvaried + delta) * scale with the unvaried
+ * one of hmtx or vmtx, and with the delta by the HVAR or VVAR at the offset xvar, 0 for none. Refused by 5, 1 and 2 as the
+ * unvaried one is; a refused delta is 0. */
 uint8_t suolluvik_adjusted_advance(const uint8_t *font, size_t font_len, uint32_t xmtx, uint16_t long_metric_count,
                                    uint32_t xvar, uint16_t glyph_id, const int16_t *coords, size_t coords_len,
                                    float scale, float *value);

@@ -954,9 +954,9 @@ pub fn xmtx_sb(
     answer(number, value)
 }
 
-/// The y of a glyph's vertical origin, unvaried, by the VORG at the offset vorg: that of its record, or the default where none
-/// is found; they are searched by halving. An offset of 0 is [`Refusal::Absent`], else a read past the font's end is
-/// [`Refusal::Short`].
+/// The y of a glyph's vertical origin, unvaried, by the VORG at the offset vorg, whose records are searched by halving: that of
+/// the glyph's record, or the default where none is found. An offset of 0 is [`Refusal::Absent`], else a read past the font's
+/// end is [`Refusal::Short`].
 pub fn vorg_origin(font: &[u8], vorg: u32, glyph_id: u16) -> Result<i16, Refusal> {
     let mut value = 0;
     let number = unsafe {

@@ -3,7 +3,7 @@ use Prim.Native.Nat.{ℕ}
 use mathlib.Core.Path.{_≡_, refl}
 use mathlib.Core.List.{List, [], _∷_, _++_}
 use lib.ListN.{take}
-use lib.IntN.{ℤ, pos, negsuc}
+use lib.IntN.{pos, negsuc}
 use Rattle.readers.specs.Outcome.{value, refused}
 use Rattle.readers.specs.Reading.{unsignedAt, signedAt, bigEndian, run}
 use Rattle.opentype.specs.Search.{searchIn, searched}
@@ -34,7 +34,7 @@ pub advances :
 unfolding computing-tables
 advances = (refl, refl, refl, refl, refl)
 
--- The bearing of a long record; past them, the first of the bearings alone is that of the first glyph. Behind the last there is none.
+-- The bearing of a long record; the first of the bearings alone is that of the first glyph past these. Past the font's end there is none.
 pub bearings :
     (run font (sbAt 3 2 0) ≡ value (negsuc 9))
     × (run font (sbAt 3 2 1) ≡ value (pos 20))
@@ -54,7 +54,7 @@ pub refusals :
 unfolding computing-tables
 refusals = (refl, refl, refl, refl, refl)
 
--- Only the two bytes that are used must be there: a long record may end behind its advance, and a table before it.
+-- Only the two bytes that are used must be there: the font may end behind the advance of a long record, or before a record that is not used.
 pub cut :
     (run (take 9 font) (advanceAt 3 2 1) ≡ value 65535)
     × (run (take 9 font) (sbAt 3 2 1) ≡ refused 2)

@@ -39,13 +39,14 @@ indexIn p = do
   outer ← unsignedAt 2 (p + 6)
   answer (record { outer = outer; inner = inner })
 
--- The search for a tag, which answers where its record starts: 4 where there is none.
+-- The records, each with its tag first.
 abbrev pub valueRecords : ℕ → Records
 valueRecords valueRecordSize = record { keySize = 4; start = recordStart valueRecordSize }
 
 abbrev pub byTag : Sought ℕ
 byTag = record { found = answer; missing = refuse 4 }
 
+-- The search for a tag: where its record starts, 4 where there is none.
 unfoldable pub find : Header → ℕ → Reading ℕ
 find header tag = searched (valueRecords (header .valueRecordSize)) byTag tag (header .valueRecordCount)
 

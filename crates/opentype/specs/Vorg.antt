@@ -15,7 +15,7 @@ vertOriginYMetrics vorg = record { keySize = 2; start = λ i. vorg + 8 + 4 * i }
 abbrev pub vertOriginY : ℤ → Sought ℤ
 vertOriginY defaultVertOriginY = record { found = λ p. signedAt w16 (p + 2); missing = answer defaultVertOriginY }
 
--- An offset of 0 is 1.
+-- "1 for an offset of 0; then 2". A glyph that is not found is no refusal.
 unfoldable pub originAt : ℕ → ℕ → Reading ℤ
 originAt vorg glyph = do
   check (not (eqb vorg 0)) 1

@@ -12,7 +12,7 @@ use Rattle.metrics.specs.Vertical.{synthesizedFrom}
 use Rattle.metrics.proofs.MeasuresTable.{computing-measures, mvarFont, default}
 use Rattle.metrics.proofs.GlyphTable.{font}
 use Rattle.suolluvik.specs.Numbered.{numbered}
-use Rattle.suolluvik.specs.Glyph.{verticalCase, advanceOr, originOr, ifKnown, advanceWidthIn, leftBearingIn, advanceHeightIn, topBearingIn, verticalOriginIn, advanceAt, originAt}
+use Rattle.suolluvik.specs.Glyph.{verticalCase, advanceOr, originOr, ifKnown, advanceWidthIn, leftBearingIn, advanceHeightIn, topBearingIn, verticalOriginIn, materializedAdvance, materializedOrigin}
 
 -- 2.0
 abbrev two : Float
@@ -81,14 +81,14 @@ abbrev shifted : (List ℕ → ℕ → ℕ → List ℤ → Float → Float → 
 shifted part which = numbered zero (part (mvarFont 11) which 2 default (float (pos 1000)) (float (pos 800)))
 
 pub materialized-by-case :
-    (shifted advanceAt 2 ≡ (0, float (pos 1005)))
-    × (shifted originAt 2 ≡ (0, float (pos 802)))
-    × (shifted advanceAt 0 ≡ (0, float (pos 1000)))
-    × (shifted originAt 0 ≡ (0, float (pos 800)))
-    × (shifted advanceAt 1 ≡ (0, float (pos 1000)))
-    × (shifted originAt 1 ≡ (0, float (pos 800)))
-    × (shifted advanceAt 3 ≡ (3, zero))
-    × (shifted originAt 3 ≡ (3, zero))
+    (shifted materializedAdvance 2 ≡ (0, float (pos 1005)))
+    × (shifted materializedOrigin 2 ≡ (0, float (pos 802)))
+    × (shifted materializedAdvance 0 ≡ (0, float (pos 1000)))
+    × (shifted materializedOrigin 0 ≡ (0, float (pos 800)))
+    × (shifted materializedAdvance 1 ≡ (0, float (pos 1000)))
+    × (shifted materializedOrigin 1 ≡ (0, float (pos 800)))
+    × (shifted materializedAdvance 3 ≡ (3, zero))
+    × (shifted materializedOrigin 3 ≡ (3, zero))
 unfolding computing-measures verticalCase
 materialized-by-case = (refl, refl, refl, refl, refl, refl, refl, refl)
 

@@ -77,10 +77,10 @@ verticalOriginIn font unitsPerEm which vvar made glyph coords unvaried y scale =
     inCase (verticalCase which vvar zero made) (λ v. verticalOrigin font glyph coords unvaried y y (glyphs unitsPerEm 0 v scale))
 
 -- The advance and the origin of the synthesized case at some coordinates.
-abbrev pub advanceAt : List ℕ → ℕ → ℕ → List ℤ → Float → Float → Outcome Float
-advanceAt font which mvar coords advance origin =
+abbrev pub materializedAdvance : List ℕ → ℕ → ℕ → List ℤ → Float → Float → Outcome Float
+materializedAdvance font which mvar coords advance origin =
     inCase (verticalCase which mvar advance origin) (λ v. advanceOr advance (materializedVertical font coords v))
 
-abbrev pub originAt : List ℕ → ℕ → ℕ → List ℤ → Float → Float → Outcome Float
-originAt font which mvar coords advance origin =
+abbrev pub materializedOrigin : List ℕ → ℕ → ℕ → List ℤ → Float → Float → Outcome Float
+materializedOrigin font which mvar coords advance origin =
     inCase (verticalCase which mvar advance origin) (λ v. originOr origin (materializedVertical font coords v))

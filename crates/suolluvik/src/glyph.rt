@@ -9,7 +9,7 @@ ghost use mathlib.Core.Path.{_≡_};
 ghost use Rattle.metrics.specs.Scale.{zero, scaleFor};
 ghost use Rattle.metrics.specs.Vertical.{synthesizedFrom};
 ghost use Rattle.metrics.specs.Structs.{verticalOf, glyphsOf, ordinate};
-ghost use Rattle.suolluvik.specs.Glyph.{verticalCase, glyphs, noVertical, advanceOr, originOr, ifKnown, advanceWidthIn, leftBearingIn, advanceHeightIn, topBearingIn, verticalOriginIn, advanceAt, originAt};
+ghost use Rattle.suolluvik.specs.Glyph.{verticalCase, glyphs, noVertical, advanceOr, originOr, ifKnown, advanceWidthIn, leftBearingIn, advanceHeightIn, topBearingIn, verticalOriginIn, materializedAdvance, materializedOrigin};
 ghost use Rattle.suolluvik.specs.Numbered.{numbered};
 ghost use Rattle.suolluvik.specs.GlyphAnswers.{verticalOutcome};
 
@@ -234,8 +234,8 @@ pub extern "C" fn suolluvik_materialize_glyph_metrics<'a>(
     advance_at: &mut f32,
     origin_at: &mut f32,
 ) -> u8
-    ensures advance { λ r. ⌜ (r, now («advance_at» .exit)) ≡ numbered zero (advanceAt (now (font .entry)) vertical mvar (now (coords .entry)) advance origin) ⌝ }
-    ensures origin { λ r. ⌜ (r, now («origin_at» .exit)) ≡ numbered zero (originAt (now (font .entry)) vertical mvar (now (coords .entry)) advance origin) ⌝ }
+    ensures advance { λ r. ⌜ (r, now («advance_at» .exit)) ≡ numbered zero (materializedAdvance (now (font .entry)) vertical mvar (now (coords .entry)) advance origin) ⌝ }
+    ensures origin { λ r. ⌜ (r, now («origin_at» .exit)) ≡ numbered zero (materializedOrigin (now (font .entry)) vertical mvar (now (coords .entry)) advance origin) ⌝ }
 {
     match vertical_case(vertical, mvar, advance, origin) {
         VerticalAnswer::Value(v) => {

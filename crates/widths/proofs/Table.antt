@@ -117,7 +117,7 @@ pub read-top-bearings :
 unfolding reading
 read-top-bearings = (refl, refl, refl, refl)
 
--- With glyf (10 + (-10 + 12)·2)·2. Its bearing is asked for only where there is a yMax; else it is units per em, and nothing is refused.
+-- With glyf (10 + (-10 + 12)·2)·2. Its bearing is asked for only where there is a yMax; else the origin is units per em, and nothing is refused.
 pub read-glyf-origins :
     (readVerticalOrigin font 0 [] (some (pos 10)) (with-vertical (glyf 2 60)) ≡ value (float (pos 28)))
     × (readVerticalOrigin font 0 [] (some (pos 10)) (with-vertical (glyf 0 0)) ≡ refused 5)

@@ -20,7 +20,7 @@ unvariedAt bearing xmtx longMetricCount glyph = do
   n ← sbAt xmtx longMetricCount glyph
   answer (float n)
 
--- What takes the unvaried number from a caller, `varied`, with the number read; the refusal of the reading, and of nothing else.
+-- (unvaried + delta)·scale, by `varied`, with the unvaried number read. Only that reading refuses, by 5, 1 or 2: a refused delta is 0.0, and so it is where there is no HVAR or VVAR.
 unfoldable pub adjustedAt : List ℕ → Measure → ℕ → ℕ → ℕ → ℕ → List ℤ → Float → Outcome Float
 adjustedAt font measure xmtx longMetricCount xvar glyph coords scale =
     onward (run font (unvariedAt measure xmtx longMetricCount glyph)) λ unvaried.

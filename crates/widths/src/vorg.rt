@@ -6,7 +6,6 @@ use readers::i16_at;
 use readers::u16_at;
 ghost use mathlib.Core.Path.{_≡_};
 ghost use Prim.Native.Nat.{_^_, _<_};
-ghost use lib.IntN.{ℤ};
 ghost use Rattle.readers.specs.Reading.{run};
 ghost use Rattle.opentype.specs.Search.{searched};
 ghost use Rattle.readers.specs.Answers.{outcomeI16};

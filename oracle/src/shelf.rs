@@ -367,7 +367,8 @@ fn compare(folder: &Path, damage: Option<(u64, u64)>) -> io::Result<bool> {
     for title in &shelf.without_fvar {
         println!("without fvar: {title}");
     }
-    if shelf.functions.iter().all(|tally| tally.cases == 0) {
+    let nothing_read = shelf.readings.iter().all(|tally| tally.cases == 0);
+    if nothing_read && shelf.functions.iter().all(|tally| tally.cases == 0) {
         let why = "nothing below it can be compared";
         return Err(io::Error::new(io::ErrorKind::Other, why));
     }

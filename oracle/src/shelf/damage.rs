@@ -1,4 +1,5 @@
-//! Damage: fields of the variation tables set to limits, bytes changed, the font cut, the directory moved.
+//! Damage: fields of the variation tables, or of those of widths, set to limits, bytes changed, the font cut, the
+//! directory moved.
 
 use super::font::{
     record, u16_at, u32_at, FVAR, HHEA, HMTX, HVAR, LONG_RECORDS, MAXP, MVAR, VHEA, VMTX, VORG,
@@ -43,7 +44,7 @@ impl Damage {
     }
 }
 
-/// The fields of a face's variation tables: where each is, and how many bytes it has.
+/// The fields of a face's variation tables, or of those of widths: where each is, and how many bytes it has.
 #[derive(Default)]
 pub struct Fields {
     fields: Vec<(usize, usize)>,
@@ -208,7 +209,7 @@ impl Fields {
 
     /// Whether there is nothing to damage.
     pub fn is_empty(&self) -> bool {
-        self.tables.is_empty()
+        self.tables.is_empty() || self.fields.is_empty()
     }
 
     /// What few fonts have, so that it is damaged too: a map for the bearings, the advances' one, and an
@@ -259,7 +260,7 @@ impl Fields {
                 done.set(data, p + 4 * k, &limit.to_be_bytes());
             }
         }
-        if kind == 4 || kind > 5 {
+        if kind == 4 || kind > 5 || (kind == 5 && self.axes.is_empty()) {
             for _ in 0..=random.below(3) {
                 let (p, size) = random.pick(&self.fields);
                 let old = match size {

@@ -24,9 +24,10 @@ pub const FUNCTIONS: [&str; 9] = [
 const VMTX: usize = 4;
 const ORIGIN: usize = 8;
 
-pub const COLUMNS: [&str; 6] = [
+pub const COLUMNS: [&str; 7] = [
     "cases",
     "a value",
+    "past count",
     "refused by 5",
     "refused by 1",
     "refused by 2",
@@ -37,6 +38,8 @@ pub const COLUMNS: [&str; 6] = [
 pub struct Tally {
     pub cases: u64,
     values: u64,
+    /// a value, and a row past its subtable's item count is met
+    outside: u64,
     /// by 5, 1 and 2
     refused: [u64; 3],
     pub differences: u64,
@@ -46,6 +49,7 @@ impl Tally {
     pub fn add(&mut self, other: &Tally) {
         self.cases += other.cases;
         self.values += other.values;
+        self.outside += other.outside;
         for (sum, more) in self.refused.iter_mut().zip(other.refused) {
             *sum += more;
         }
@@ -54,12 +58,21 @@ impl Tally {
 
     pub fn columns(&self) -> [u64; COLUMNS.len()] {
         let [by_5, by_1, by_2] = self.refused;
-        [self.cases, self.values, by_5, by_1, by_2, self.differences]
+        let (values, outside) = (self.values, self.outside);
+        [
+            self.cases,
+            values,
+            outside,
+            by_5,
+            by_1,
+            by_2,
+            self.differences,
+        ]
     }
 }
 
 /// So many pairs of a glyph and a coordinate list are asked for of a table of deltas; but each list that is taken
-/// is asked for at every glyph, and two are.
+/// is asked for at every glyph, and two are. They lie as far apart among all lists as they can.
 const PAIRS: usize = 100_000;
 
 /// One for each list in turn.
@@ -98,10 +111,12 @@ impl Reading {
         arguments: impl Fn() -> String,
         ours: Answer<T>,
         said: Answer<T>,
+        outside: bool,
     ) {
         let tally = &mut self.tallies[function];
         tally.cases += 1;
         let place = match said {
+            Ok(_) if outside => Some(&mut tally.outside),
             Ok(_) => Some(&mut tally.values),
             Err(5) => Some(&mut tally.refused[0]),
             Err(1) => Some(&mut tally.refused[1]),
@@ -127,11 +142,11 @@ impl Reading {
             for glyph in there {
                 self.raw(first, font.data, table, *glyph);
             }
-            let most = (PAIRS / there.len()).max(2);
-            for (k, list) in lists.iter().take(most).enumerate() {
+            let most = (PAIRS / there.len()).max(2).min(lists.len());
+            for k in (0..most).map(|n| n * lists.len() / most) {
+                let scale = SCALES[k % SCALES.len()];
                 for glyph in there {
-                    let scale = SCALES[k % SCALES.len()];
-                    self.adjusted(first, font.data, table, *glyph, list, scale);
+                    self.adjusted(first, font.data, table, *glyph, &lists[k], scale);
                 }
             }
         }
@@ -163,10 +178,10 @@ impl Reading {
         let arguments = || format!("offset {at}, count {count}, glyph {glyph}");
         let advance = suolluvik::xmtx_advance(font, at, count, glyph);
         let said = rules::xmtx_advance(font, table, glyph);
-        self.case(first, arguments, ours(advance, |n| n), said);
+        self.case(first, arguments, ours(advance, |n| n), said, false);
         let sb = suolluvik::xmtx_sb(font, at, count, glyph);
         let said = rules::xmtx_sb(font, table, glyph);
-        self.case(first + 1, arguments, ours(sb, |n| n), said);
+        self.case(first + 1, arguments, ours(sb, |n| n), said, false);
     }
 
     fn adjusted(
@@ -181,27 +196,25 @@ impl Reading {
         let Table { at, count, xvar } = table;
         let said = |map| {
             let mut place = Place::new(font, coords, COUNTED);
-            rules::adjusted(&mut place, table, map, glyph, scale).map(bits)
+            let width = rules::adjusted(&mut place, table, map, glyph, scale).map(bits);
+            (width, place.rows.outside)
         };
         let arguments = || {
             let tables = format!("offset {at}, count {count}, deltas at {xvar}");
             format!("{tables}, glyph {glyph}, coordinates {coords:?}, scale {scale:?}")
         };
         let advance = suolluvik::adjusted_advance(font, at, count, xvar, glyph, coords, scale);
-        self.case(
-            first + 2,
-            arguments,
-            ours(advance, bits),
-            said(Map::Advance),
-        );
+        let (width, outside) = said(Map::Advance);
+        self.case(first + 2, arguments, ours(advance, bits), width, outside);
         let sb = suolluvik::adjusted_sb(font, at, count, xvar, glyph, coords, scale);
-        self.case(first + 3, arguments, ours(sb, bits), said(Map::Bearing));
+        let (bearing, outside) = said(Map::Bearing);
+        self.case(first + 3, arguments, ours(sb, bits), bearing, outside);
     }
 
     fn origin(&mut self, font: &[u8], vorg: u32, glyph: u16) {
         let arguments = || format!("offset {vorg}, glyph {glyph}");
         let origin = suolluvik::vorg_origin(font, vorg, glyph);
         let said = rules::vorg_origin(font, vorg, glyph);
-        self.case(ORIGIN, arguments, ours(origin, |n| n), said);
+        self.case(ORIGIN, arguments, ours(origin, |n| n), said, false);
     }
 }

@@ -359,12 +359,12 @@ impl Judge {
         };
         if fits && as_said {
             let count = match (rust, &ours, read.falls) {
+                _ if read.outside => Some(&mut tally.outside),
                 (None, _, _) => Some(&mut tally.stops),
                 (Some(_), Err(_), Some(falls)) => {
                     self.counts.falls[falls as usize] += 1;
                     Some(&mut tally.falls)
                 }
-                (Some(_), Ok(_), _) if read.outside => Some(&mut tally.outside),
                 (Some(x), Ok(y), _) if same(&[x], &[*y]) => Some(&mut tally.equal),
                 _ => None,
             };

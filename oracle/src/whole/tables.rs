@@ -1,5 +1,5 @@
-//! The tables: of each state of the fonts one by folder and one by function, and one of what document 01
-//! decides.
+//! The tables: of each state of the fonts one by folder and one by function, one of what swash has where ours
+//! refuses, and one of what document 01 decides.
 
 use crate::deciding::WHYS;
 use crate::falling::FALLS;

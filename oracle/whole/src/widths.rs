@@ -47,7 +47,12 @@ pub fn ask(lines: &mut Lines, face: &Face, rounds: u64, random: impl Fn(u64) -> 
         return;
     };
     let glyphs = measures.glyph_count;
-    let tops = tops(face, glyphs);
+    let tops = tops(face, glyphs).unwrap_or_else(|| {
+        if rounds > 0 {
+            lines.leave("no origin by glyf of its damaged copies: yMax does not show");
+        }
+        vec![]
+    });
     let mut copy = face.font.data.to_vec();
     let mut left = 0;
     for round in 0..rounds {
@@ -61,9 +66,10 @@ pub fn ask(lines: &mut Lines, face: &Face, rounds: u64, random: impl Fn(u64) -> 
     }
 }
 
-/// The yMax of each glyph, where swash has origins from there, by a copy in which each top bearing is 257.
-fn tops(face: &Face, glyphs: u16) -> Vec<Option<i16>> {
-    let found = tried(|| {
+/// The yMax of each glyph, where swash has origins from there, by a copy in which each top bearing is 257 and does
+/// not vary.
+fn tops(face: &Face, glyphs: u16) -> Option<Vec<Option<i16>>> {
+    tried(|| {
         let mut copy = face.font.data.to_vec();
         let mut head = face.table(b"hhea").to_vec();
         head.get_mut(COUNT..COUNT + 2)?.copy_from_slice(&[0, 1]);
@@ -72,6 +78,7 @@ fn tops(face: &Face, glyphs: u16) -> Vec<Option<i16>> {
             (b"vhea", at(copy.len(), head.len())),
             (b"vmtx", at(copy.len() + head.len(), bearings.len())),
             (b"VORG", at(0, 0)),
+            (b"VVAR", at(0, 0)),
         ];
         let directory = directory(&face.font, &tables)?;
         copy.extend([head, bearings].concat());
@@ -81,8 +88,8 @@ fn tops(face: &Face, glyphs: u16) -> Vec<Option<i16>> {
         let metrics = font.glyph_metrics(&[]);
         let y = |glyph| y_max(&metrics, glyph).map(|y| y as i16);
         Some((0..glyphs).map(y).collect())
-    });
-    found.flatten().unwrap_or_default()
+    })
+    .flatten()
 }
 
 /// Some tables of their own, behind the font.
@@ -106,9 +113,11 @@ impl Behind<'_> {
         self.bytes.extend(table);
     }
 
-    /// A copy of hhea with another count of long records, or one that ends before it.
+    /// A copy of hhea or vhea with another count of long records, or one that ends before it; of hhea for a vhea that
+    /// the font has not.
     fn count(&mut self, tag: &'static [u8; 4], random: &mut Random) {
-        let mut head = self.face.table(b"hhea").to_vec();
+        let own = if self.face.has(tag) { tag } else { b"hhea" };
+        let mut head = self.face.table(own).to_vec();
         let old = u16_at(&head, COUNT).unwrap_or(0) as u16;
         let new = number(random, old, self.glyphs).to_be_bytes();
         if let Some(count) = head.get_mut(COUNT..COUNT + 2) {

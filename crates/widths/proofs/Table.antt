@@ -10,7 +10,7 @@ use lib.Ieee.{Float, nan}
 use Rattle.readers.specs.Outcome.{value, refused}
 use Rattle.opentype.specs.Metric.{advance, bearing}
 use Rattle.opentype.specs.Footprint.{bytes, metricFootprint}
-use Rattle.opentype.proofs.DeltaTable.{s1-font, two-maps}
+use Rattle.opentype.proofs.DeltaTable.{s1-font, with-byte, two-maps}
 use Rattle.opentype.proofs.FootprintTable.{footing, covered, _to_}
 use Rattle.opentype.proofs.XmtxTable.{computing-tables, metrics, origins}
 use Rattle.metrics.specs.Scale.{float}
@@ -95,9 +95,13 @@ vorg longCount vmtx offset = vmtxVorg longCount vmtx 4 offset
 abbrev made : Vertical
 made = synthesized 0 (float (pos 1000)) (float (pos 800))
 
-pub read-widths : (readLevel font advance 0 [] (with-vertical made) ≡ value (float (pos 1020))) × (readLevel font bearing 0 [] (with-vertical made) ≡ value (float (pos 4)))
+-- Glyph 2 is past the long records, not past the glyphs: the first of the bearings alone.
+pub read-widths :
+    (readLevel font advance 0 [] (with-vertical made) ≡ value (float (pos 1020)))
+    × (readLevel font bearing 0 [] (with-vertical made) ≡ value (float (pos 4)))
+    × (readLevel font bearing 2 [] (with-vertical made) ≡ value (float (pos 84)))
 unfolding reading
-read-widths = (refl, refl)
+read-widths = (refl, refl, refl)
 
 -- By vmtx, with glyf or with VORG. A synthesized height refuses nothing.
 pub read-heights :
@@ -135,6 +139,20 @@ pub read-vorg-origins :
     × (readVerticalOrigin [] 5 [] (some (pos 10)) (with-vertical made) ≡ value (float (pos 1600)))
 unfolding reading
 read-vorg-origins = (refl, refl, refl, refl, refl)
+
+-- S1's font with a map for bearings behind it, at 51, by which that of glyph 0 varies as its advance does and any other has a refused delta; the hmtx at 60.
+abbrev s1-bearings : List ℕ
+s1-bearings = with-byte 19 47 s1-font ++ 0 ∷ 0 ∷ 0 ∷ 2 ∷ 0 ∷ 1 ∷ 9 ∷ 9 ∷ 9 ∷ metrics
+
+-- Coordinates and glyph are handed on: (500 + 50)·2, (-10 + 50)·2, and the origin (10 + 80)·2.
+pub read-at-coordinates :
+    (readLevel s1-bearings advance 0 half (with-vertical made) ≡ value (float (pos 1100)))
+    × (readLevel s1-bearings bearing 0 half (with-vertical made) ≡ value (float (pos 80)))
+    × (readUpright s1-bearings advance 0 half (with-vertical (glyf 2 60)) ≡ value (float (pos 1100)))
+    × (readUpright s1-bearings bearing 0 half (with-vertical (vorg 2 60 0)) ≡ value (float (pos 80)))
+    × (readVerticalOrigin s1-bearings 0 half (some (pos 10)) (with-vertical (glyf 2 60)) ≡ value (float (pos 180)))
+unfolding reading
+read-at-coordinates = (refl, refl, refl, refl, refl)
 
 -- ---- footprints
 

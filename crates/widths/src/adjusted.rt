@@ -37,7 +37,7 @@ fn unvaried_sb(font: &[u8], xmtx: u32, long_metric_count: u16, glyph_id: u16) ->
     }
 }
 
-// The one or the other.
+// The unvaried number of either measure.
 pub(crate) fn unvaried(
     font: &[u8],
     measure: Measure,

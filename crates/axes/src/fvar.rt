@@ -222,16 +222,22 @@ impl Fvar {
         })
     }
 
-    // Counted from the table's start, as the Rust has it (D).
-    fn postscript_name_id(self, table: &[u8]) -> NameId
-        ensures { λ r. ⌜ nameOf r ≡ postScriptNameID (now (table .entry)) (header self) ⌝ }
+    // At the end of the instance's own record (W-203), which starts below 2^34; 0xFFFF says that there is none.
+    fn postscript_name_id(self, table: &[u8], start: usize) -> NameId
+        requires { ⌜ start < 2 ^ 34 ⌝ }
+        ensures { λ r. ⌜ nameOf r ≡ postScriptNameID (now (table .entry)) (header self) start ⌝ }
     {
         let at = 4 + 4 * (self.axis_count as usize);
         if at + 2 != (self.inst_size as usize) {
             return NameId::Absent;
         }
-        match u16_at(table, at) {
-            Half::Value(x) => NameId::Named(x),
+        match u16_at(table, start + at) {
+            Half::Value(id) => {
+                if id == 0xffff {
+                    return NameId::Absent;
+                }
+                NameId::Named(id)
+            }
             Half::Refused(_) => NameId::Absent,
         }
     }
@@ -241,7 +247,8 @@ impl Fvar {
     {
         match self.instance_record(table, index) {
             RecordAnswer::Value(r) => {
-                let postscript_name_id = self.postscript_name_id(table);
+                let start = self.instance_start(index);
+                let postscript_name_id = self.postscript_name_id(table, start);
                 InstanceAnswer::Value(VarInstance {
                     index,
                     name_id: r.name_id,

@@ -96,14 +96,14 @@ pub data NameID : Type 0 where
   absent : NameID
   named : ℕ → NameID
 
--- The PostScript name id is read only if 4 + 4 · axis count = instance size - 2, at that number counted from the table's start (D: OpenType
--- counts from the record's), absent if unreadable.
-unfoldable pub postScriptNameID : List ℕ → Header → NameID
-postScriptNameID table header =
+-- The field at the end of the InstanceRecord at `start`, which is optional (W-203: "OpenType puts it at the end of the instance's own record, and 0xFFFF says there is none"). It is read only if 4 + 4 · axis count =
+-- instance size - 2, at that number counted from the record's start; absent if unreadable.
+unfoldable pub postScriptNameID : List ℕ → Header → ℕ → NameID
+postScriptNameID table header start =
     let p = 4 + 4 * header .axisCount in
     cond (eqb p (header .instanceSize - 2)) (valueOr absent (run table (do
-      id ← unsignedAt 2 p
-      answer (named id)))) absent
+      id ← unsignedAt 2 (start + p)
+      answer (cond (eqb id 0xFFFF) absent (named id))))) absent
 
 pub record Instance : Type 0 where
   pub index : ℕ
@@ -112,7 +112,7 @@ pub record Instance : Type 0 where
 
 unfoldable pub instance : List ℕ → Header → ℕ → Outcome Instance
 instance table header j = onward (run table (instanceRecord header j)) λ r.
-    value (record { index = j; subfamilyNameID = r .subfamilyNameID; postScriptNameID = postScriptNameID table header })
+    value (record { index = j; subfamilyNameID = r .subfamilyNameID; postScriptNameID = postScriptNameID table header (instanceStart header j) })
 
 -- The values of instance j: the very part of the table that they occupy.
 unfoldable pub instanceValues : List ℕ → Header → ℕ → Outcome (List ℕ)

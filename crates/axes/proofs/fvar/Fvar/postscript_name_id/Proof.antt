@@ -4,9 +4,9 @@ use mathlib.Core.Path.{ap}
 use native.Mathlib.Omega.{arith}
 use borrow.Author.Needs.{needs}
 use borrow.Author.Tests.{eq-eqb, ne-eqb}
-use Rattle.readers.specs.Outcome.{valueOr}
+use Rattle.readers.specs.Outcome.{value, valueOr}
 use Rattle.readers.proofs.Reading.{took16, stop16, answered}
-use Rattle.opentype.specs.Fvar.{absent, postScriptNameID}
+use Rattle.opentype.specs.Fvar.{absent, named, postScriptNameID}
 use Rattle.axes.proofs.fvar.Fvar.postscript_name_id.Statement.{statement}
 use Rattle.axes.proofs.fvar.Fvar.postscript_name_id.Tie as tie
 
@@ -31,11 +31,14 @@ returns c =
     let self = c .before .before .before .before .args .self in
     rw (ne-eqb (4 + 4 * self .«axis_count») (self .«inst_size» - 2) (λ e. c .if1 .taken (omega arith)))
 
+add-u16-at : tie.Need-add-u16-at
+add-u16-at c = search needs
+
 u16-at-requires : tie.Need-u16-at-requires
 u16-at-requires c κs = search needs
 
-enum-known-x : tie.Need-enum-known-x
-enum-known-x c = search needs
+enum-known-id : tie.Need-enum-known-id
+enum-known-id c = search needs
 
 enum-told : tie.Need-enum-told
 enum-told c = search needs
@@ -43,16 +46,28 @@ enum-told c = search needs
 returns-2 : tie.Need-returns-2
 unfolding postScriptNameID
 returns-2 c =
-    let self = c .before .before .before .before .before .before .before .before .args .self in
+    let read = c .before .before .before .before in
+    let self = read .before .before .before .before .before .args .self in
     rw (eq-eqb (4 + 4 * self .«axis_count») (self .«inst_size» - 2) (omega arith))
-    (ap (valueOr absent) (took16 _ _ _ _ (c .before .before .before .u16-at .ensures) (c .before .x .given .1) (answered _ _)))
+    (ap (valueOr absent) (took16 _ _ _ (value absent) (read .u16-at .ensures) (c .before .before .id .given .1)
+    (rw (eq-eqb _ 65535 (c .if2 .taken)) (answered _ _))))
 
 returns-3 : tie.Need-returns-3
 unfolding postScriptNameID
 returns-3 c =
-    let self = c .before .before .before .before .before .before .before .args .self in
+    let read = c .before .before .before .before in
+    let self = read .before .before .before .before .before .args .self in
     rw (eq-eqb (4 + 4 * self .«axis_count») (self .«inst_size» - 2) (omega arith))
-    (ap (valueOr absent) (stop16 _ _ _ (c .before .before .u16-at .ensures) (c .enum-told .given .1)))
+    (ap (valueOr absent) (took16 _ _ _ (value (named _)) (read .u16-at .ensures) (c .before .before .id .given .1)
+    (rw (ne-eqb _ 65535 (c .if2 .left)) (answered _ _))))
+
+returns-4 : tie.Need-returns-4
+unfolding postScriptNameID
+returns-4 c =
+    let read = c .before .before in
+    let self = read .before .before .before .before .before .args .self in
+    rw (eq-eqb (4 + 4 * self .«axis_count») (self .«inst_size» - 2) (omega arith))
+    (ap (valueOr absent) (stop16 _ _ _ (read .u16-at .ensures) (c .enum-told .given .1)))
 
 pub postscript-name-id-spec : {M : Type 1} → statement M
 postscript-name-id-spec =
@@ -64,8 +79,10 @@ postscript-name-id-spec =
     add-if1
     cast-if1
     returns
+    add-u16-at
     u16-at-requires
-    enum-known-x
-    enum-told
+    enum-known-id
     returns-2
-    returns-3)
+    enum-told
+    returns-3
+    returns-4)

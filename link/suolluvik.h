@@ -18,9 +18,9 @@
  * number that its four letters make, the first one highest: wght is 0x77676874.
  *
  * The answers are swash's, also where OpenType says something else, but for avar maps that OpenType does not allow, for rows
- * past a subtable's item count, and for what hmtx, vmtx and VORG do not have, which is refused, where swash has some number;
- * docs/DIFFERENCES.md has each such place. Two are met in many fonts: an instance's PostScript name id is
- * not the one that OpenType means, and of MVAR's records most are refused. */
+ * past a subtable's item count, for what hmtx, vmtx and VORG do not have, which is refused, where swash has some number, and
+ * for an instance's PostScript name id, where swash has another number of the table; docs/DIFFERENCES.md has each such place.
+ * One where both depart from OpenType is met in many fonts: of MVAR's records most are refused. */
 #ifndef SUOLLUVIK_H
 #define SUOLLUVIK_H
 
@@ -91,8 +91,8 @@ uint8_t suolluvik_axis_by_tag(const uint8_t *fvar, size_t fvar_len, uint32_t tag
 /* A 16.16 number as the nearest float. */
 float suolluvik_fixed_to_f32(int32_t fixed);
 
-/* An instance, by its index. has_postscript_name is 1 or 0; where it is 0, postscript_name_id is. As in swash the place of
- * that id is counted from the table's start and not from the record's, so it is some other number of the table. */
+/* An instance, by its index. has_postscript_name is 1 or 0; where it is 0, postscript_name_id is. That id stands at the end
+ * of the instance's own record, and 0xFFFF there says that there is none; swash reads another number of the table. */
 uint8_t suolluvik_instance(const uint8_t *fvar, size_t fvar_len, uint16_t index, uint16_t *name_id,
                            uint8_t *has_postscript_name, uint16_t *postscript_name_id);
 

@@ -12,8 +12,8 @@
 //! The thread's float environment rounds to nearest and flushes nothing to zero, as a Rust program's does.
 //!
 //! The answers are swash's, also where OpenType says something else, but for avar maps that OpenType does not allow, for rows
-//! past a subtable's item count, and for what hmtx, vmtx and VORG do not have, which is refused, where swash has some number;
-//! `docs/DIFFERENCES.md` has each such place.
+//! past a subtable's item count, for what hmtx, vmtx and VORG do not have, which is refused, where swash has some number, and
+//! for an instance's PostScript name id, where swash has another number of the table; `docs/DIFFERENCES.md` has each such place.
 
 // `tests/prototypes` holds these to the library's source.
 mod exports {
@@ -506,8 +506,8 @@ pub fn axis_by_tag(fvar: &[u8], tag: u32) -> Result<Axis, Refusal> {
     answer(number, a)
 }
 
-/// Named instance in a variable font. As in swash the place of the PostScript name id is counted from the table's start and not
-/// from the record's, so it is some other number of the table.
+/// Named instance in a variable font. The PostScript name id stands at the end of the instance's own record, and 0xFFFF there
+/// says that there is none; swash reads another number of the table.
 #[derive(Copy, Clone, PartialEq, Eq, Debug, Default)]
 pub struct Instance {
     pub index: u16,

@@ -208,12 +208,13 @@ static void try_deltas(void)
 #define SLNT "736c6e74 fff60000 00000000 00000000 0003 0101"
 #define BELOW "62656c6f fff68000 fffcc000 ffff4000 8003 8102"
 /* Document 01's listing; a second axis; a third one, all below 0; instances with a PostScript name id, at 700 and at 650; one
- * of 32768 that are counted. */
+ * of 32768 that are counted; one that ends with what is given. */
 #define LISTED FVAR("0001", "0014", "0000", "0008") WGHT
 #define TWO FVAR("0002", "0014", "0001", "000c") WGHT SLNT "0102 0000 028a0000 fffb0000"
 #define THREE FVAR("0003", "0014", "0000", "0010") WGHT SLNT BELOW
 #define NAMED FVAR("0001", "0014", "0002", "000a") WGHT "0101 0000 02bc0000 0111 0102 0000 028a0000 0112"
 #define MANY FVAR("0001", "0014", "8000", "000a") WGHT "0101 0000 02bc0000 0111"
+#define ENDING(end) FVAR("0001", "0014", "0001", "000a") WGHT "0102 0000 028a0000" end
 #define UNSIZED(size) FVAR("0001", "0014", "0001", size) WGHT "0102 0000 028a0000"
 /* N2's axis and N3's, whose instance is at min. */
 #define N2 FVAR("0001", "0014", "0001", "0008") "77676874 00000000 00000000 00000000 0000 0100 0102 0000 00050000"
@@ -308,11 +309,15 @@ static void try_floats(const char *name, const char *hex, uint16_t index, size_t
 
 static void try_instances(void)
 {
-    /* the id is read at 8 from the table's start, where the axis count stands; without axes at 4, with two at 12 */
-    try_instance("with a PostScript name", NAMED, 0, 0, 0x101, 1, 1);
-    try_instance("the second one", NAMED, 1, 0, 0x102, 1, 1);
-    try_instance("with a PostScript name id of 0", "00010000 0000 0002 0000 0014 0001 0006", 0, 0, 1, 1, 0);
-    try_instance("with a PostScript name id of 513", FVAR("0002", "0000", "0201", "000e") WGHT, 0, 0, 0x7767, 1, 513);
+    try_instance("with a PostScript name", NAMED, 0, 0, 0x101, 1, 0x111);
+    try_instance("the second one", NAMED, 1, 0, 0x102, 1, 0x112);
+    try_instance("W-203's 22 bytes", FVAR("0000", "0014", "0001", "0006") "0101 0000 0102", 0, 0, 0x101, 1, 0x102);
+    try_instance("with a PostScript name id of 0", ENDING("0000"), 0, 0, 0x102, 1, 0);
+    try_instance("with a PostScript name id of 65534", ENDING("fffe"), 0, 0, 0x102, 1, 0xfffe);
+    try_instance("with 0xFFFF for none", ENDING("ffff"), 0, 0, 0x102, 0, 0);
+    try_instance("cut behind its values", ENDING(""), 0, 0, 0x102, 0, 0);
+    try_instance("cut in its PostScript name id", ENDING("01"), 0, 0, 0x102, 0, 0);
+    try_instance("of a size with room for more", FVAR("0001", "0014", "0001", "000c") WGHT "0102 0000 028a0000 0111 0000", 0, 0, 0x102, 0, 0);
     try_instance("without a PostScript name", TWO, 0, 0, 0x102, 0, 0);
     try_instance("cut", FVAR("0001", "0014", "0001", "0008") WGHT "0102 0000 028a00", 0, 2, 0, 0, 0);
     try_instance("past the count", NAMED, 2, 3, 0, 0, 0);

@@ -475,20 +475,43 @@ fn axes(t: &mut Test) {
     let floats = [6553600, -1, i32::MAX].map(suolluvik::fixed_to_f32);
     t.same("fixed_to_f32", floats, [100., -1. / 65536., 32768.]);
 
-    // the id is read at 8 from the table's start, where the axis count stands; without axes at 4, with two at 12
-    let no_axes = &bytes("00010000 0000 0002 0000 0014 0001 0006")[..];
-    let two_axes = &changed(LISTED, 8, "0002 0000 0201 000e")[..];
+    let no_axes = &bytes("00010000 0010 0002 0000 0014 0001 0006 0101 0000 0102")[..];
+    // the last two bytes are the second one's id
+    let ending = |id: &str| changed(NAMED, named.len() - 2, id);
+    let (zero, last, none) = (
+        &ending("0000")[..],
+        &ending("fffe")[..],
+        &ending("ffff")[..],
+    );
+    let larger = &changed(NAMED, 14, "000c")[..];
     for (name, fvar, index, name_id, postscript_name_id) in [
-        ("with a PostScript name", named, 0, 0x101, Some(1)),
-        ("the second one", named, 1, 0x102, Some(1)),
-        ("with a PostScript name id of 0", no_axes, 0, 1, Some(0)),
+        ("with a PostScript name", named, 0, 0x101, Some(0x111)),
+        ("the second one", named, 1, 0x102, Some(0x112)),
+        ("W-203's 22 bytes", no_axes, 0, 0x101, Some(0x102)),
+        ("with a PostScript name id of 0", zero, 1, 0x102, Some(0)),
         (
-            "with a PostScript name id of 513",
-            two_axes,
-            0,
-            0x7767,
-            Some(513),
+            "with a PostScript name id of 65534",
+            last,
+            1,
+            0x102,
+            Some(0xfffe),
         ),
+        ("with 0xFFFF for none", none, 1, 0x102, None),
+        (
+            "cut behind its values",
+            &named[..named.len() - 2],
+            1,
+            0x102,
+            None,
+        ),
+        (
+            "cut in its PostScript name id",
+            &named[..named.len() - 1],
+            1,
+            0x102,
+            None,
+        ),
+        ("of a size with room for more", larger, 0, 0x101, None),
         ("without a PostScript name", two, 0, 0x102, None),
     ] {
         let expected = Instance {

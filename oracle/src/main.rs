@@ -65,18 +65,20 @@ pub struct Expected {
     /// the answer by the rules, in exact integers
     pub rule: String,
     /// whether what the Rust does fits the rules' answer; of a row outside the item count, their answer
-    /// without it
+    /// without it; of an instance, their answer with the Rust's PostScript name id
     pub agree: bool,
     /// whether a row outside its subtable's item count is met
     pub outside: bool,
+    /// whether the Rust has another PostScript name id of an instance than the rules
+    pub other_name: bool,
 }
 
 impl Expected {
     /// Where the Rust has no answer, or one without its number, and where it does not look at an item
-    /// count, the rules decide.
+    /// count or not at an instance's own PostScript name id, the rules decide.
     fn answer(&self) -> &str {
         match &self.rust {
-            Rust::Answer(answer) if !self.outside => answer,
+            Rust::Answer(answer) if !self.outside && !self.other_name => answer,
             _ => &self.rule,
         }
     }
@@ -131,6 +133,8 @@ struct Row {
     silent: u64,
     /// as the rules, where a row outside its subtable's item count is met, whatever the Rust does
     outside: u64,
+    /// as the rules, where the Rust has another PostScript name id, and all else is the Rust's
+    other_name: u64,
     differences: u64,
     /// where what the Rust does doesn't fit the rules in exact integers
     broken_rules: u64,
@@ -171,6 +175,9 @@ impl Row {
             Some(_) if wanted.map_or(false, |w| w.outside) => {
                 (&mut self.outside, "the rule, for a row outside the count")
             }
+            Some(_) if wanted.map_or(false, |w| w.other_name) => {
+                (&mut self.other_name, "the rule, for a PostScript name id")
+            }
             Some(Rust::Stops) => (&mut self.stops, "the rule, where the Rust stops"),
             Some(Rust::Silent) => (&mut self.silent, "the rule; the Rust has no counterpart"),
             Some(Rust::None) => (&mut self.equal, "the rule, for the Rust's None"),
@@ -199,6 +206,7 @@ impl Row {
             self.stops,
             self.silent,
             self.outside,
+            self.other_name,
             self.differences,
             self.broken_rules,
         ]
@@ -210,17 +218,19 @@ impl Row {
         self.stops += row.stops;
         self.silent += row.silent;
         self.outside += row.outside;
+        self.other_name += row.other_name;
         self.differences += row.differences;
         self.broken_rules += row.broken_rules;
     }
 }
 
-const COLUMNS: [&str; 7] = [
+const COLUMNS: [&str; 8] = [
     "cases",
     "as the Rust",
     "Rust stops",
     "Rust silent",
     "past count",
+    "other name",
     "differences",
     "rule vs. Rust",
 ];
@@ -273,7 +283,7 @@ fn write_all(lines: impl Iterator<Item = String>) {
 fn cases(seed: &str, count: &str, subject: &str) -> Option<Box<dyn Iterator<Item = String>>> {
     let seed = seed.parse().ok()?;
     let numbers = numbers::cases::Cases::new(seed);
-    let mut axes = axes::cases::with_avar(seed);
+    let mut axes = axes::cases::with_avar_and_names(seed);
     let mut store = store::cases::with_counts(seed);
     let mut metrics = metrics::cases::with_counts(seed);
     let mut widths = widths::cases::with_counts(seed);
@@ -309,8 +319,11 @@ const SAMPLE_OF_AVAR: usize = 500;
 /// Lines of item counts, behind these; of the metrics half as many.
 const SAMPLE_OF_COUNTS: usize = 400;
 
-/// Lines of widths, behind all others.
+/// Lines of widths, behind these.
 const SAMPLE_OF_WIDTHS: usize = 653;
+
+/// Lines of an instance's PostScript name id, behind all others.
+const SAMPLE_OF_NAMES: usize = 323;
 
 fn run(words: &[&str]) -> Option<bool> {
     match *words {
@@ -329,6 +342,7 @@ fn run(words: &[&str]) -> Option<bool> {
             write_all(store::cases::counts::sample(seed, SAMPLE_OF_COUNTS).into_iter());
             write_all(metrics::cases::sample_of_counts(seed, SAMPLE_OF_COUNTS / 2).into_iter());
             write_all(widths::cases::sample(seed, SAMPLE_OF_WIDTHS).into_iter());
+            write_all(axes::names::sample(seed, SAMPLE_OF_NAMES).into_iter());
         }
         ["answers"] => {
             let answer = |line: String| {

@@ -11,6 +11,8 @@ mod damage;
 mod font;
 #[path = "shelf/judge.rs"]
 mod judge;
+#[path = "shelf/named.rs"]
+mod named;
 mod private;
 #[allow(dead_code)]
 mod random;
@@ -67,6 +69,7 @@ shelf compare FOLDER                 compare the fonts below FOLDER
 shelf damage FOLDER ROUNDS SEED      the same ROUNDS times, each font damaged by random from SEED
 shelf coords FOLDER                  write coordinates by the library, with avar, of the fonts below FOLDER
 shelf widths FOLDER                  write hmtx, vmtx, VORG and widths by the library
+shelf names FOLDER                   write the name ids of instances by the library
 ";
 
 /// A font that is larger is left out.
@@ -386,6 +389,7 @@ fn run(words: &[OsString]) -> Option<io::Result<bool>> {
         }
         ("coords", [folder]) => Some(coords::write(Path::new(folder)).map(|()| true)),
         ("widths", [folder]) => Some(written::write(Path::new(folder)).map(|()| true)),
+        ("names", [folder]) => Some(named::write(Path::new(folder)).map(|()| true)),
         _ => None,
     }
 }

@@ -222,19 +222,19 @@ impl Fvar {
         })
     }
 
-    // At the end of the instance's own record (W-203), which starts below 2^34; 0xFFFF says that there is none.
-    fn postscript_name_id(self, table: &[u8], start: usize) -> NameId
-        requires { ⌜ start < 2 ^ 34 ⌝ }
-        ensures { λ r. ⌜ nameOf r ≡ postScriptNameID (now (table .entry)) (header self) start ⌝ }
+    // At the end of the instance's own record (W-203).
+    fn postscript_name_id(self, table: &[u8], index: u16) -> NameId
+        ensures { λ r. ⌜ nameOf r ≡ postScriptNameID (now (table .entry)) (header self) (instanceStart (header self) index) ⌝ }
     {
         let at = 4 + 4 * (self.axis_count as usize);
         if at + 2 != (self.inst_size as usize) {
             return NameId::Absent;
         }
+        let start = self.instance_start(index);
         match u16_at(table, start + at) {
             Half::Value(id) => {
                 if id == 0xffff {
-                    return NameId::Absent;
+                    return NameId::Absent; // it says that there is none
                 }
                 NameId::Named(id)
             }
@@ -247,8 +247,7 @@ impl Fvar {
     {
         match self.instance_record(table, index) {
             RecordAnswer::Value(r) => {
-                let start = self.instance_start(index);
-                let postscript_name_id = self.postscript_name_id(table, start);
+                let postscript_name_id = self.postscript_name_id(table, index);
                 InstanceAnswer::Value(VarInstance {
                     index,
                     name_id: r.name_id,

@@ -6,7 +6,8 @@ use lib.ListN.{take}
 use lib.IntN.{ℤ, pos}
 use lib.Ieee.{Float}
 use Rattle.readers.specs.Outcome.{value, refused}
-use Rattle.readers.specs.Reading.{run}
+use Rattle.readers.specs.Reading.{run, unsignedAt}
+use Rattle.opentype.specs.Fvar.{absent, named}
 use Rattle.opentype.specs.Item.{itemDelta}
 use Rattle.opentype.specs.Metric.{advance, bearing, metricDelta, floatOf}
 use Rattle.opentype.specs.Mvar.{mvarDelta}
@@ -19,6 +20,7 @@ use Rattle.opentype.proofs.DeltaTable.{s5-font, with-byte, two-maps, one-row, t
 use Rattle.opentype.proofs.MvarTable.{sorted}
 use Rattle.opentype.proofs.FootprintTable.{footing}
 use Rattle.opentype.proofs.XmtxTable.{origins}
+use Rattle.opentype.proofs.InstanceTable.{computing-instances, no-axes, one-axis, asked, names}
 use Rattle.metrics.proofs.MeasuresTable.{computing-measures}
 use Rattle.widths.specs.Adjusted.{adjustedAt, adjustedFootprint}
 use Rattle.widths.proofs.Table.{reading, s1-hmtx}
@@ -93,10 +95,29 @@ pub record Requests : Type 0 where
       × (adjustedAt (take 52 s1-hmtx) advance 51 2 4 0 (pos 8192 ∷ []) two ≡ refused 2)
       -- "Its footprint being the delta's and the two bytes of the advance used."
       × (adjustedFootprint s1-hmtx advance 51 2 4 0 ≡ metricFootprint s1-hmtx 4 advance 0 ++ bytes 51 2 ∷ [])
+  -- The PostScript name id of an instance. no-axes has one instance, whose name id is 257; its size is given, and what stands behind its first four bytes, at 20. one-axis has two, of ten bytes, at 36 and 46, with the ids 258 and 260.
+  pub W-203 :
+      -- "The Rust reads it from the start of the table": 22 bytes, of which those at 4 are the axis offset, 16, that was answered. "OpenType puts it at the end of the instance's own record": 258.
+      (run (no-axes 6 (1 ∷ 2 ∷ [])) (unsignedAt 2 4) ≡ value 16)
+      × (asked (no-axes 6 (1 ∷ 2 ∷ [])) 0 ≡ names 0 257 (named 258))
+      × (asked one-axis 0 ≡ names 0 257 (named 258))
+      × (asked one-axis 1 ≡ names 1 259 (named 260))
+      -- "0xFFFF says there is none."
+      × (asked (no-axes 6 (0xff ∷ 0xff ∷ [])) 0 ≡ names 0 257 absent)
+      -- Cut behind the values: the instance answers, without an id.
+      × (asked (take 54 one-axis) 1 ≡ names 1 259 absent)
+      -- Sizes that fit neither form.
+      × (asked (no-axes 5 (1 ∷ 2 ∷ [])) 0 ≡ names 0 257 absent)
+      × (asked (no-axes 8 (1 ∷ 2 ∷ 3 ∷ 4 ∷ [])) 0 ≡ names 0 257 absent)
+      -- "Refusals: none new": 3; 2, also where there are no axes and just four bytes; 5.
+      × (asked one-axis 2 ≡ refused 3)
+      × (asked (no-axes 6 []) 0 ≡ refused 2)
+      × (asked (no-axes 1 (1 ∷ 2 ∷ [])) 0 ≡ refused 5)
 
 pub requests : Requests
-unfolding computing-measures s5-font itemDelta uncountedRow uncountedItem uncountedDelta reading footing adjustedFootprint
+unfolding computing-measures s5-font itemDelta uncountedRow uncountedItem uncountedDelta reading footing adjustedFootprint computing-instances
 requests = record {
   W-201 = λ coords. (refl, refl, refl, refl, refl, refl, refl, refl, refl, refl, refl, refl, refl, refl, refl);
   W-202 = (refl, refl, refl, refl, refl, refl, refl, refl, refl, refl, refl, refl, refl, refl, refl, refl, refl, refl, refl, refl, refl, refl);
+  W-203 = (refl, refl, refl, refl, refl, refl, refl, refl, refl, refl, refl);
 }

@@ -1,5 +1,6 @@
 -- What the item count changed; small tables, computed by the definitions; laws of the halving search.
 pub mod AxisTable
+pub mod InstanceTable
 pub mod ItemCount
 pub mod DeltaTable
 pub mod MvarTable

@@ -1,7 +1,7 @@
 //! Cases of fvar, normalising and coordinate lists: whole tables of many shapes cut at every byte, and
 //! random ones, whole, damaged and cut.
 
-use super::{avar, FUNCTIONS};
+use super::{avar, names, FUNCTIONS};
 use crate::random::Random;
 use crate::text;
 
@@ -27,7 +27,7 @@ struct Parts {
     instances: Vec<Vec<i64>>,
 }
 
-fn put(bytes: &mut Vec<u8>, at: usize, part: &[u8]) {
+pub(super) fn put(bytes: &mut Vec<u8>, at: usize, part: &[u8]) {
     if bytes.len() < at + part.len() {
         bytes.resize(at + part.len(), 0);
     }
@@ -68,7 +68,7 @@ impl Parts {
 }
 
 /// A good table of two instances, but for its sizes: its last two axes have the same tag.
-fn good(axes: usize, axis_size: u16, instance_size: u16) -> Vec<u8> {
+pub(super) fn good(axes: usize, axis_size: u16, instance_size: u16) -> Vec<u8> {
     let limits = [
         [100 << 16, 400 << 16, 900 << 16],
         [-(12 << 16), 0, 0],
@@ -460,12 +460,14 @@ impl Iterator for Cases {
     }
 }
 
-/// Every fourth case is one of avar.
-pub fn with_avar(seed: u64) -> impl Iterator<Item = String> {
+/// Of five cases one is of avar, and one of an instance's PostScript name id.
+pub fn with_avar_and_names(seed: u64) -> impl Iterator<Item = String> {
     let mut others = Cases::new(seed);
     let mut avars = avar::Cases::new(seed);
-    (0..).map_while(move |turn: u64| match turn % 4 {
+    let mut names = names::cases(seed);
+    (0..).map_while(move |turn: u64| match turn % 5 {
         3 => avars.next(),
+        4 => names.next(),
         _ => others.next(),
     })
 }

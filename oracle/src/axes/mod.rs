@@ -3,6 +3,7 @@
 
 pub mod avar;
 pub mod cases;
+pub mod names;
 pub mod rules;
 
 use crate::numbers::rules::to_f32;
@@ -372,10 +373,7 @@ impl Case {
                 rule_axis(rules::axis_by_tag(self.bytes(0), self.number(1) as u32))
             }
             "get_instance" => match rules::instance(self.bytes(0), index(1)) {
-                Ok(instance) => {
-                    let postscript = name_text(instance.postscript_name_id);
-                    format!("value {} {} {postscript}", index(1), instance.name_id)
-                }
+                Ok(instance) => self.instance_text(&instance, instance.postscript_name_id),
                 Err(number) => refused(number),
             },
             "instance_values" => match rules::instance(self.bytes(0), index(1)) {
@@ -429,6 +427,21 @@ impl Case {
         }
     }
 
+    fn instance_text(&self, instance: &rules::Instance, postscript: Option<i128>) -> String {
+        let (index, name_id) = (self.number(1), instance.name_id);
+        format!("value {index} {name_id} {}", name_text(postscript))
+    }
+
+    /// What the rules say with swash's PostScript name id, where that is another one than the record's own.
+    fn with_swash_name(&self) -> Option<String> {
+        if self.name != "get_instance" {
+            return None;
+        }
+        let instance = rules::instance(self.bytes(0), self.number(1) as usize).ok()?;
+        let theirs = instance.swash_postscript_name_id;
+        (theirs != instance.postscript_name_id).then(|| self.instance_text(&instance, theirs))
+    }
+
     /// `None` is one of 1 to 4; a stop is 5, or 2 for an instance with 2 or 3 bytes left; what has no
     /// counterpart is 6 or 7, or anything by an avar.
     fn agree(&self, rust: &Rust, rule: &str) -> bool {
@@ -451,12 +464,14 @@ impl Case {
     pub fn expected(&self) -> Expected {
         let rust = Rust::of(|| self.rust().unwrap_or(Rust::None));
         let rule = self.rule();
+        let theirs = self.with_swash_name();
         Expected {
             name: self.row,
-            agree: self.agree(&rust, &rule),
+            agree: self.agree(&rust, theirs.as_ref().unwrap_or(&rule)),
             rust,
             rule,
             outside: false,
+            other_name: theirs.is_some(),
         }
     }
 }

@@ -76,11 +76,14 @@ pub fn axis_by_tag(table: &[u8], tag: u32) -> Answer<Axis> {
 
 pub struct Instance<'a> {
     pub name_id: i128,
+    /// the record's last two bytes, where its size has room for just these; 0xFFFF is none
     pub postscript_name_id: Option<i128>,
+    /// what swash has for it: as far from the table's start, and 0xFFFF as any other
+    pub swash_postscript_name_id: Option<i128>,
     pub values: &'a [u8],
 }
 
-fn instance_start(fvar: &Header, index: usize) -> usize {
+pub fn instance_start(fvar: &Header, index: usize) -> usize {
     fvar.axis_offset + fvar.axis_count * fvar.axis_size + index * fvar.instance_size
 }
 
@@ -99,15 +102,15 @@ pub fn instance(table: &[u8], index: usize) -> Answer<Instance<'_>> {
     if fvar.instance_size < 2 {
         return Err(5);
     }
-    // counted from the table's start
-    let postscript = if 4 + size == fvar.instance_size - 2 {
-        unsigned(table, 4 + size, 2).ok()
-    } else {
-        None
+    let last = 4 + size;
+    let id_at = |from: usize| match last == fvar.instance_size - 2 {
+        true => unsigned(table, from + last, 2).ok(),
+        false => None,
     };
     Ok(Instance {
         name_id,
-        postscript_name_id: postscript,
+        postscript_name_id: id_at(at).filter(|id| *id != 0xffff),
+        swash_postscript_name_id: id_at(0),
         values: &table[start..start + size],
     })
 }

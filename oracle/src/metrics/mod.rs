@@ -375,6 +375,7 @@ impl Case {
             rule,
             agree,
             outside: met.rows.outside,
+            other_name: false,
         }
     }
 }

@@ -133,6 +133,7 @@ impl Case {
             rule,
             agree,
             outside: false,
+            other_name: false,
         }
     }
 }

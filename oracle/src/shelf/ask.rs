@@ -222,14 +222,17 @@ impl<'a> Asker<'a, '_> {
             let ours = suolluvik::instance(table, index)
                 .map(|i| (i.index, i.name_id, i.postscript_name_id))
                 .map_err(Refusal::number);
-            let rule = || {
+            let rules = |postscript: fn(&axis_rules::Instance) -> Option<i128>| {
                 let instance = axis_rules::instance(table, index as usize)?;
-                let postscript = instance.postscript_name_id.map(|id| id as u16);
+                let postscript = postscript(&instance).map(|id| id as u16);
                 Ok((index, instance.name_id as u16, postscript))
             };
+            let said = rules(|instance| instance.postscript_name_id);
+            let theirs = rules(|instance| instance.swash_postscript_name_id);
             let arguments = || format!("index {index}");
+            let function = Function::Instance;
             self.judge
-                .judge(Function::Instance, arguments, rust, ours, rule, few_left);
+                .instance(function, arguments, rust, ours, (said, theirs), few_left);
             // just enough, one too few, and two too many
             let mut rooms = vec![axes, axes + 2];
             rooms.extend(axes.checked_sub(1));

@@ -157,6 +157,12 @@ impl Fields {
             self.push(start + 16 + 20 * axis, &[0, 4, 8, 12], 4);
             self.push(start + 16 + 20 * axis, &[16, 18], 2);
         }
+        // both ids of an instance
+        let [instances, size] = [12, 14].map(|p| u16_at(data, start + p).unwrap_or(0) as usize);
+        for instance in 0..instances.min(MOST) {
+            let record = start + 16 + 20 * axes + size * instance;
+            self.push(record, &[0, 4 + 4 * axes], 2);
+        }
     }
 
     fn metrics(&mut self, data: &[u8], start: usize) {

@@ -89,16 +89,19 @@ pub struct Tally {
     pub silent: u64,
     /// refusal 3, where the row is outside its subtable's item count, whatever the Rust does
     pub outside: u64,
+    /// what the rules say of an instance, where the Rust has another PostScript name id, and all else is the Rust's
+    pub other_name: u64,
     pub differences: u64,
 }
 
-pub const COLUMNS: [&str; 7] = [
+pub const COLUMNS: [&str; 8] = [
     "cases",
     "equal",
     "None",
     "Rust stops",
     "Rust silent",
     "past count",
+    "other name",
     "differences",
 ];
 
@@ -110,6 +113,7 @@ impl Tally {
         self.stops += other.stops;
         self.silent += other.silent;
         self.outside += other.outside;
+        self.other_name += other.other_name;
         self.differences += other.differences;
     }
 
@@ -121,9 +125,18 @@ impl Tally {
             self.stops,
             self.silent,
             self.outside,
+            self.other_name,
             self.differences,
         ]
     }
+}
+
+/// What the Rust is held to where the rules have another answer.
+enum Second<T> {
+    /// the rules without the item count
+    Uncounted(Answer<T>),
+    /// the rules with the Rust's PostScript name id
+    OtherName(Answer<T>),
 }
 
 /// Stands for a refusal that changed a lent list, which none may.
@@ -176,6 +189,21 @@ impl Judge {
         self.case(function, arguments, rust, ours, (rule(), None), few_left);
     }
 
+    /// The same for an instance's name ids. Where the Rust has another PostScript name id there are two answers: ours is
+    /// the rule's, and the Rust's that of the second model, which counts as the Rust does.
+    pub fn instance<T: PartialEq + Debug>(
+        &mut self,
+        function: Function,
+        arguments: impl Fn() -> String,
+        rust: Rust<T>,
+        ours: Answer<T>,
+        (said, theirs): (Answer<T>, Answer<T>),
+        few_left: impl FnOnce() -> bool,
+    ) {
+        let second = (said != theirs).then_some(Second::OtherName(theirs));
+        self.case(function, arguments, rust, ours, (said, second), few_left);
+    }
+
     /// The same for a delta. Where its row is outside the item count there are two answers: ours is the rule's, and the
     /// Rust's that of the second model, which does not look at the count.
     pub fn delta<T: PartialEq + Debug>(
@@ -184,9 +212,10 @@ impl Judge {
         arguments: impl Fn() -> String,
         rust: Rust<T>,
         ours: Answer<T>,
-        rules: (Answer<T>, Option<Answer<T>>),
+        (said, uncounted): (Answer<T>, Option<Answer<T>>),
     ) {
-        self.case(function, arguments, rust, ours, rules, || false);
+        let second = uncounted.map(Second::Uncounted);
+        self.case(function, arguments, rust, ours, (said, second), || false);
     }
 
     fn case<T: PartialEq + Debug>(
@@ -195,12 +224,15 @@ impl Judge {
         arguments: impl Fn() -> String,
         rust: Rust<T>,
         ours: Answer<T>,
-        (said, uncounted): (Answer<T>, Option<Answer<T>>),
+        (said, second): (Answer<T>, Option<Second<T>>),
         few_left: impl FnOnce() -> bool,
     ) {
         let tally = &mut self.tallies[function as usize];
         tally.cases += 1;
-        let theirs = uncounted.as_ref().unwrap_or(&said);
+        let theirs = match &second {
+            Some(Second::Uncounted(theirs) | Second::OtherName(theirs)) => theirs,
+            None => &said,
+        };
         let (mut count, fits) = match &rust {
             Rust::Answer(answer) => (&mut tally.equal, theirs.as_ref() == Ok(answer)),
             Rust::None => (&mut tally.none, matches!(theirs, Err(1..=4))),
@@ -210,10 +242,12 @@ impl Judge {
             }
             Rust::Silent => (&mut tally.silent, matches!(theirs, Err(6..=7))),
         };
-        if uncounted.is_some() {
-            count = &mut tally.outside;
+        match second {
+            Some(Second::Uncounted(_)) => count = &mut tally.outside,
+            Some(Second::OtherName(_)) => count = &mut tally.other_name,
+            None => (),
         }
-        // the rules' answer is the Rust's where that answers, and the row is inside the count
+        // the rules' answer is the Rust's where that answers, and there is no second one
         let same = ours == said;
         if fits && same {
             *count += 1;
@@ -230,8 +264,14 @@ impl Judge {
         println!("    {}, {}", FUNCTIONS[function as usize], arguments());
         println!("    ours {}", answer_text(&ours));
         println!("    the Rust {done}; the rules {}", answer_text(&said));
-        if let Some(theirs) = &uncounted {
-            println!("    without the item count {}", answer_text(theirs));
+        match &second {
+            Some(Second::Uncounted(theirs)) => {
+                println!("    without the item count {}", answer_text(theirs))
+            }
+            Some(Second::OtherName(theirs)) => {
+                println!("    with the Rust's name id {}", answer_text(theirs))
+            }
+            None => (),
         }
     }
 }

@@ -236,6 +236,7 @@ impl Case {
             rule,
             agree,
             outside: rows.outside,
+            other_name: false,
         }
     }
 }
@@ -266,5 +267,6 @@ pub fn tags(line: &str) -> Option<Expected> {
         rust: Rust::Answer(rust),
         rule,
         outside: false,
+        other_name: false,
     })
 }

@@ -170,10 +170,14 @@ fn our_instance(table: &[u8], index: u16) -> Result<String, Refusal> {
     ))
 }
 
-fn rule_instance(table: &[u8], index: usize) -> Answer<String> {
+fn rule_instance(
+    table: &[u8],
+    index: usize,
+    postscript: fn(&rules::Instance) -> Option<i128>,
+) -> Answer<String> {
     let instance = rules::instance(table, index)?;
     let values = rules::instance_values(table, index, usize::MAX)?;
-    let postscript = instance.postscript_name_id.map(|id| id as u16);
+    let postscript = postscript(&instance).map(|id| id as u16);
     Ok(instance_text(
         index,
         instance.name_id as u16,
@@ -185,15 +189,16 @@ fn rule_instance(table: &[u8], index: usize) -> Answer<String> {
 fn instance(judge: &mut Judge, font: &Font, index: u16, answer: &str) {
     let table = font.table();
     let ours = our_instance(table, index).map_err(Refusal::number);
-    let rule = rule_instance(table, index.into());
+    let rule = rule_instance(table, index.into(), |i| i.postscript_name_id);
+    let theirs = rule_instance(table, index.into(), |i| i.swash_postscript_name_id);
     let few_left = rules::few_left(table, index.into());
     let arguments = || format!("index {}", index);
-    judge.judge(
+    judge.instance(
         Function::Instance,
         arguments,
         rust_text(answer),
         ours,
-        rule,
+        (rule, theirs),
         few_left,
     );
 }

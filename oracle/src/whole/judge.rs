@@ -90,6 +90,8 @@ pub struct Tally {
     pub outside: u64,
     /// the refusal of the rules where the Rust answers what it has in the place of what can't be read
     pub falls: u64,
+    /// what the rules say of an instance, where the Rust has another PostScript name id, and all else is the Rust's
+    pub other_name: u64,
     pub differences: u64,
 }
 
@@ -102,6 +104,7 @@ impl Tally {
         self.stops += other.stops;
         self.outside += other.outside;
         self.falls += other.falls;
+        self.other_name += other.other_name;
         self.differences += other.differences;
     }
 
@@ -114,12 +117,13 @@ impl Tally {
             self.decided,
             self.outside,
             self.falls,
+            self.other_name,
             self.differences,
         ]
     }
 }
 
-pub const COLUMNS: [&str; 8] = [
+pub const COLUMNS: [&str; 9] = [
     "cases",
     "equal",
     "None",
@@ -127,6 +131,7 @@ pub const COLUMNS: [&str; 8] = [
     "01 decides",
     "past count",
     "ours refuses",
+    "other name",
     "differences",
 ];
 
@@ -232,20 +237,55 @@ impl Judge {
         rule: Answer<T>,
         few_left: bool,
     ) {
+        self.case(function, arguments, rust, ours, (rule, None), few_left);
+    }
+
+    /// The same for an instance. Where the Rust has another PostScript name id there are two answers: ours is the rule's, and
+    /// the Rust's that of the second model, which counts as the Rust does.
+    pub fn instance<T: PartialEq + Debug>(
+        &mut self,
+        function: Function,
+        arguments: impl Fn() -> String,
+        rust: Rust<T>,
+        ours: Answer<T>,
+        (rule, theirs): (Answer<T>, Answer<T>),
+        few_left: bool,
+    ) {
+        let second = (rule != theirs).then_some(theirs);
+        self.case(function, arguments, rust, ours, (rule, second), few_left);
+    }
+
+    fn case<T: PartialEq + Debug>(
+        &mut self,
+        function: Function,
+        arguments: impl Fn() -> String,
+        rust: Rust<T>,
+        ours: Answer<T>,
+        (rule, other_name): (Answer<T>, Option<Answer<T>>),
+        few_left: bool,
+    ) {
         let tally = &mut self.counts.functions[function as usize];
         tally.cases += 1;
-        let (count, fits) = match &rust {
-            Rust::Answer(answer) => (&mut tally.equal, rule.as_ref() == Ok(answer)),
-            Rust::None => (&mut tally.none, matches!(rule, Err(1..=4))),
+        let theirs = other_name.as_ref().unwrap_or(&rule);
+        let (mut count, fits) = match &rust {
+            Rust::Answer(answer) => (&mut tally.equal, theirs.as_ref() == Ok(answer)),
+            Rust::None => (&mut tally.none, matches!(theirs, Err(1..=4))),
             Rust::Stops => (
                 &mut tally.stops,
-                rule == Err(5) || (rule == Err(2) && few_left),
+                *theirs == Err(5) || (*theirs == Err(2) && few_left),
             ),
         };
+        if other_name.is_some() {
+            count = &mut tally.other_name;
+        }
         if fits && ours == rule {
             *count += 1;
         } else {
-            let texts = [answer_text(&ours), rust_text(&rust), answer_text(&rule)];
+            let mut done = rust_text(&rust);
+            if let Some(theirs) = &other_name {
+                done += &format!(", by its own rule {}", answer_text(theirs));
+            }
+            let texts = [answer_text(&ours), done, answer_text(&rule)];
             self.difference(function, arguments(), texts);
         }
     }

@@ -10,20 +10,15 @@ instance-record-requires c κs = search needs
 enum-known-r : tie.Need-enum-known-r
 enum-known-r c = search needs
 
-instance-start-requires : tie.Need-instance-start-requires
-instance-start-requires c κs = search needs
-
 postscript-name-id-requires : tie.Need-postscript-name-id-requires
-postscript-name-id-requires c κs = c .instance-start .ensures .1
+postscript-name-id-requires c κs = search needs
 
 enum-known-n : tie.Need-enum-known-n
 enum-known-n c = search needs
 
 returns : tie.Need-returns
 unfolding instance
-returns c =
-    let read = c .before .before .before in
-    rw (← read .before .before .instance-record .ensures, read .r .given .1, ← c .before .instance-start .ensures .0, ← c .postscript-name-id .ensures)
+returns c = rw (← c .before .before .before .before .instance-record .ensures, c .before .before .r .given .1, ← c .postscript-name-id .ensures)
 
 returns-2 : tie.Need-returns-2
 unfolding instance
@@ -35,7 +30,6 @@ get-instance-spec =
     (tie.spec
     instance-record-requires
     enum-known-r
-    instance-start-requires
     postscript-name-id-requires
     enum-known-n
     returns

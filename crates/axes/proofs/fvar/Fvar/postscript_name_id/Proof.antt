@@ -31,6 +31,9 @@ returns c =
     let self = c .before .before .before .before .args .self in
     rw (ne-eqb (4 + 4 * self .«axis_count») (self .«inst_size» - 2) (λ e. c .if1 .taken (omega arith)))
 
+instance-start-requires : tie.Need-instance-start-requires
+instance-start-requires c κs = search needs
+
 add-u16-at : tie.Need-add-u16-at
 add-u16-at c = search needs
 
@@ -47,8 +50,8 @@ returns-2 : tie.Need-returns-2
 unfolding postScriptNameID
 returns-2 c =
     let read = c .before .before .before .before in
-    let self = read .before .before .before .before .before .args .self in
-    rw (eq-eqb (4 + 4 * self .«axis_count») (self .«inst_size» - 2) (omega arith))
+    let self = read .before .before .before .before .before .before .args .self in
+    rw (← read .before .instance-start .ensures .0, eq-eqb (4 + 4 * self .«axis_count») (self .«inst_size» - 2) (omega arith))
     (ap (valueOr absent) (took16 _ _ _ (value absent) (read .u16-at .ensures) (c .before .before .id .given .1)
     (rw (eq-eqb _ 65535 (c .if2 .taken)) (answered _ _))))
 
@@ -56,8 +59,8 @@ returns-3 : tie.Need-returns-3
 unfolding postScriptNameID
 returns-3 c =
     let read = c .before .before .before .before in
-    let self = read .before .before .before .before .before .args .self in
-    rw (eq-eqb (4 + 4 * self .«axis_count») (self .«inst_size» - 2) (omega arith))
+    let self = read .before .before .before .before .before .before .args .self in
+    rw (← read .before .instance-start .ensures .0, eq-eqb (4 + 4 * self .«axis_count») (self .«inst_size» - 2) (omega arith))
     (ap (valueOr absent) (took16 _ _ _ (value (named _)) (read .u16-at .ensures) (c .before .before .id .given .1)
     (rw (ne-eqb _ 65535 (c .if2 .left)) (answered _ _))))
 
@@ -65,8 +68,8 @@ returns-4 : tie.Need-returns-4
 unfolding postScriptNameID
 returns-4 c =
     let read = c .before .before in
-    let self = read .before .before .before .before .before .args .self in
-    rw (eq-eqb (4 + 4 * self .«axis_count») (self .«inst_size» - 2) (omega arith))
+    let self = read .before .before .before .before .before .before .args .self in
+    rw (← read .before .instance-start .ensures .0, eq-eqb (4 + 4 * self .«axis_count») (self .«inst_size» - 2) (omega arith))
     (ap (valueOr absent) (stop16 _ _ _ (read .u16-at .ensures) (c .enum-told .given .1)))
 
 pub postscript-name-id-spec : {M : Type 1} → statement M
@@ -79,6 +82,7 @@ postscript-name-id-spec =
     add-if1
     cast-if1
     returns
+    instance-start-requires
     add-u16-at
     u16-at-requires
     enum-known-id

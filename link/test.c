@@ -312,6 +312,7 @@ static void try_instances(void)
     try_instance("with a PostScript name", NAMED, 0, 0, 0x101, 1, 0x111);
     try_instance("the second one", NAMED, 1, 0, 0x102, 1, 0x112);
     try_instance("W-203's 22 bytes", FVAR("0000", "0014", "0001", "0006") "0101 0000 0102", 0, 0, 0x101, 1, 0x102);
+    try_instance("of two axes", FVAR("0002", "0014", "0002", "000e") WGHT SLNT "0102 0000 028a0000 fffb0000 0201 0103 0000 02bc0000 fff60000 0202", 1, 0, 0x103, 1, 0x202);
     try_instance("with a PostScript name id of 0", ENDING("0000"), 0, 0, 0x102, 1, 0);
     try_instance("with a PostScript name id of 65534", ENDING("fffe"), 0, 0, 0x102, 1, 0xfffe);
     try_instance("with 0xFFFF for none", ENDING("ffff"), 0, 0, 0x102, 0, 0);

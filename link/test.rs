@@ -484,10 +484,16 @@ fn axes(t: &mut Test) {
         &ending("ffff")[..],
     );
     let larger = &changed(NAMED, 14, "000c")[..];
+    let two_axes = [
+        &changed(TWO, 12, "0002 000e")[..],
+        &bytes("0201 0103 0000 02bc0000 fff60000 0202"),
+    ]
+    .concat();
     for (name, fvar, index, name_id, postscript_name_id) in [
         ("with a PostScript name", named, 0, 0x101, Some(0x111)),
         ("the second one", named, 1, 0x102, Some(0x112)),
         ("W-203's 22 bytes", no_axes, 0, 0x101, Some(0x102)),
+        ("of two axes", &two_axes[..], 1, 0x103, Some(0x202)),
         ("with a PostScript name id of 0", zero, 1, 0x102, Some(0)),
         (
             "with a PostScript name id of 65534",

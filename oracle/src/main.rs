@@ -323,7 +323,7 @@ const SAMPLE_OF_COUNTS: usize = 400;
 const SAMPLE_OF_WIDTHS: usize = 653;
 
 /// Lines of an instance's PostScript name id, behind all others.
-const SAMPLE_OF_NAMES: usize = 323;
+const SAMPLE_OF_NAMES: usize = 326;
 
 fn run(words: &[&str]) -> Option<bool> {
     match *words {

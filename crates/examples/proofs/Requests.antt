@@ -20,7 +20,7 @@ use Rattle.opentype.proofs.DeltaTable.{s5-font, with-byte, two-maps, one-row, t
 use Rattle.opentype.proofs.MvarTable.{sorted}
 use Rattle.opentype.proofs.FootprintTable.{footing}
 use Rattle.opentype.proofs.XmtxTable.{origins}
-use Rattle.opentype.proofs.InstanceTable.{computing-instances, no-axes, one-axis, asked, names}
+use Rattle.opentype.proofs.InstanceTable.{computing-instances, no-axes, one-axis-of, one-axis, asked, names}
 use Rattle.metrics.proofs.MeasuresTable.{computing-measures}
 use Rattle.widths.specs.Adjusted.{adjustedAt, adjustedFootprint}
 use Rattle.widths.proofs.Table.{reading, s1-hmtx}
@@ -95,7 +95,7 @@ pub record Requests : Type 0 where
       × (adjustedAt (take 52 s1-hmtx) advance 51 2 4 0 (pos 8192 ∷ []) two ≡ refused 2)
       -- "Its footprint being the delta's and the two bytes of the advance used."
       × (adjustedFootprint s1-hmtx advance 51 2 4 0 ≡ metricFootprint s1-hmtx 4 advance 0 ++ bytes 51 2 ∷ [])
-  -- The PostScript name id of an instance. no-axes has one instance, whose name id is 257; its size is given, and what stands behind its first four bytes, at 20. one-axis has two, of ten bytes, at 36 and 46, with the ids 258 and 260.
+  -- The PostScript name id of an instance. no-axes has one instance, whose name id is 257; its size is given, and what stands behind its first four bytes, at 20. one-axis has two, of ten bytes, at 36 and 46, with the ids 258 and 260; of one-axis-of the last id is given.
   pub W-203 :
       -- "The Rust reads it from the start of the table": 22 bytes, of which those at 4 are the axis offset, 16, that was answered. "OpenType puts it at the end of the instance's own record": 258.
       (run (no-axes 6 (1 ∷ 2 ∷ [])) (unsignedAt 2 4) ≡ value 16)
@@ -104,8 +104,9 @@ pub record Requests : Type 0 where
       × (asked one-axis 1 ≡ names 1 259 (named 260))
       -- "0xFFFF says there is none."
       × (asked (no-axes 6 (0xff ∷ 0xff ∷ [])) 0 ≡ names 0 257 absent)
+      × (asked (one-axis-of 10 (0xff ∷ 0xff ∷ [])) 1 ≡ names 1 259 absent)
       -- Cut behind the values: the instance answers, without an id.
-      × (asked (take 54 one-axis) 1 ≡ names 1 259 absent)
+      × (asked (one-axis-of 10 []) 1 ≡ names 1 259 absent)
       -- Sizes that fit neither form.
       × (asked (no-axes 5 (1 ∷ 2 ∷ [])) 0 ≡ names 0 257 absent)
       × (asked (no-axes 8 (1 ∷ 2 ∷ 3 ∷ 4 ∷ [])) 0 ≡ names 0 257 absent)
@@ -119,5 +120,5 @@ unfolding computing-measures s5-font itemDelta uncountedRow uncountedItem uncoun
 requests = record {
   W-201 = λ coords. (refl, refl, refl, refl, refl, refl, refl, refl, refl, refl, refl, refl, refl, refl, refl);
   W-202 = (refl, refl, refl, refl, refl, refl, refl, refl, refl, refl, refl, refl, refl, refl, refl, refl, refl, refl, refl, refl, refl, refl);
-  W-203 = (refl, refl, refl, refl, refl, refl, refl, refl, refl, refl, refl);
+  W-203 = (refl, refl, refl, refl, refl, refl, refl, refl, refl, refl, refl, refl);
 }

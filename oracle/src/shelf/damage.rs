@@ -157,11 +157,14 @@ impl Fields {
             self.push(start + 16 + 20 * axis, &[0, 4, 8, 12], 4);
             self.push(start + 16 + 20 * axis, &[16, 18], 2);
         }
-        // both ids of an instance
+        // the name id of an instance, and its PostScript name id, if it has one
         let [instances, size] = [12, 14].map(|p| u16_at(data, start + p).unwrap_or(0) as usize);
         for instance in 0..instances.min(MOST) {
             let record = start + 16 + 20 * axes + size * instance;
-            self.push(record, &[0, 4 + 4 * axes], 2);
+            self.push(record, &[0], 2);
+            if size == 6 + 4 * axes {
+                self.push(record, &[size - 2], 2);
+            }
         }
     }
 

@@ -13,7 +13,7 @@ use std::path::Path;
 /// What stands in an instance's record behind its values, in a table that is made.
 const MADE: [(&str, fn(u16) -> Option<u16>); 4] = [
     ("no id", |_| None),
-    ("ids", |index| Some(0x0100 + index)),
+    ("ids", |index| Some(index ^ 0x0100)),
     ("0xFFFF", |_| Some(0xffff)),
     ("0xFFFF and ids", |index| {
         Some(if index % 2 == 0 { 0xffff } else { index })
@@ -22,7 +22,7 @@ const MADE: [(&str, fn(u16) -> Option<u16>); 4] = [
 
 /// For each variable face a line `font`, as `coords` has it. Then `instances`, what was done to its fvar, which is
 /// nothing at first, the table, and of each instance and of one past them the name id, a colon and the PostScript name
-/// id, or nothing; a refusal is `r` and its number.
+/// id, or nothing; a refusal is `r` and its number. For a table that can't be made `unmade`, and what it would be.
 pub fn write(folder: &Path) -> io::Result<()> {
     let mut out = BufWriter::new(io::stdout().lock());
     for path in Files::below(folder)?.fonts {
@@ -37,8 +37,9 @@ pub fn write(folder: &Path) -> io::Result<()> {
             writeln!(out, "font\t{file}\t{face}\t{row}\t{title}")?;
             table_line(&mut out, EMPTY, font.fvar)?;
             for (what, id) in MADE {
-                if let Some(table) = made(font.fvar, id) {
-                    table_line(&mut out, what, &table)?;
+                match made(font.fvar, id) {
+                    Some(table) => table_line(&mut out, what, &table)?,
+                    None => writeln!(out, "unmade\t{what}")?,
                 }
             }
         }

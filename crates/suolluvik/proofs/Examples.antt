@@ -7,14 +7,15 @@ use lib.IntN.{pos}
 use lib.Ieee.{Float}
 use Rattle.readers.specs.Outcome.{refused, number, valueOr}
 use Rattle.readers.specs.Lent.{fill}
-use Rattle.opentype.specs.Fvar.{absent, named}
+use Rattle.opentype.specs.Fvar.{Instance, absent, named}
 use Rattle.opentype.specs.Metric.{advance, bearing, metricDelta}
 use Rattle.opentype.proofs.DeltaTable.{computing, s1-font}
+use Rattle.opentype.proofs.InstanceTable.{computing-instances, one-axis-of, one-axis}
 use Rattle.metrics.specs.Scale.{float}
 use Rattle.metrics.specs.Measures.{materializedMetrics, linearScaled, scaledMetrics}
 use Rattle.metrics.proofs.MeasuresTable.{computing-measures, mvarFont, default}
 use Rattle.suolluvik.specs.Numbered.{numbered}
-use Rattle.suolluvik.specs.Fvar.{noInstance, isNamed, nameOrZero}
+use Rattle.suolluvik.specs.Fvar.{instanceIn, noInstance, isNamed, nameOrZero}
 use Rattle.suolluvik.specs.Measures.{sizeIn, changed}
 
 -- S1: an advance has the number 0 beside its value; a bearing, for which there is no map, is refused by 1, and its value is 0.
@@ -33,6 +34,19 @@ name-of-0 = (refl, refl, refl, refl)
 pub refused-instance : (valueOr noInstance (refused 3) .subfamilyNameID ≡ 0) × (isNamed (valueOr noInstance (refused 3) .postScriptNameID) ≡ 0)
 unfolding noInstance
 refused-instance = (refl, refl)
+
+-- Of two instances the second one's ids, 259 and 260; with 0xFFFF in the place of the second id there is none, and the zero of none.
+abbrev second : List ℕ → Instance
+second table = valueOr noInstance (instanceIn table 1)
+
+pub second-instance :
+    (second one-axis .subfamilyNameID ≡ 259)
+    × (isNamed (second one-axis .postScriptNameID) ≡ 1)
+    × (nameOrZero (second one-axis .postScriptNameID) ≡ 260)
+    × (isNamed (second (one-axis-of 10 (0xff ∷ 0xff ∷ [])) .postScriptNameID) ≡ 0)
+    × (nameOrZero (second (one-axis-of 10 (0xff ∷ 0xff ∷ [])) .postScriptNameID) ≡ 0)
+unfolding computing-instances noInstance
+second-instance = (refl, refl, refl, refl, refl)
 
 -- Thirteen measures, and some floats more.
 abbrev thirteen : ℕ → ℕ → ℕ → ℕ → ℕ → ℕ → ℕ → ℕ → ℕ → ℕ → ℕ → ℕ → ℕ → List Float → List Float

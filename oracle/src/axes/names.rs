@@ -72,8 +72,8 @@ pub fn cases(seed: u64) -> impl Iterator<Item = String> {
     })
 }
 
-/// The id of its own record and not of the first or of the one before, 0xFFFF and its neighbours, a table that ends behind the values and
-/// in the id, sizes that are none of OpenType's two, an id that is not read from the table's start.
+/// The id of its own record and not of the first or of the one before, 0xFFFF and its neighbours, a table that ends
+/// behind the values and in the id, sizes that are none of OpenType's two, an id that is not read from the table's start.
 const LISTED: &str = "\
 get_instance 0001000000100002000000140001000601010000ffff 0
 get_instance 0001000000100002000000140001000601010000fffe 0

@@ -1,11 +1,17 @@
 -- Reads of n bytes, once for every n. Assumes nothing.
-use Prim.Native.Nat.{ℕ, zero, suc, _+_, _*_, _^_, _≤_, _<_}
+use Prim.Native.Nat.{ℕ, zero, suc, _+_, _-_, _*_, _/_, _^_, _≤_, _<_}
 use mathlib.Core.Path.{_≡_, refl, ap}
+use mathlib.Core.Bool.{Bool, true, false}
 use mathlib.Core.List.{List}
 use native.Mathlib.Nat.{add-zero, pow-suc}
 use native.Mathlib.Omega.{arith}
-use borrow.Author.Tests.{le-leb, lt-leb}
+use borrow.Author.Tests.{le-leb, lt-leb, lt-ltb, le-ltb, ltb-true, ltb-false}
+use lib.Dec.{ltb}
+use lib.IntN.{negsuc}
 use lib.ListN.{length, getD}
+use lib.Signed.{shrZ}
+use mir.Syntax.{w8, w16}
+use mir.Val.{toZ, ofZ}
 use Rattle.readers.specs.Outcome.{Outcome, value, refused}
 use Rattle.readers.specs.Reading.{Reading, answer, bytesAt, unsignedAt, bigEndian, run}
 
@@ -52,3 +58,19 @@ pub same-bytes : (n : ℕ) (font other : List ℕ) (p : ℕ) → SameBytes n fon
 unfolding bigEndian
 same-bytes zero font other p h = refl
 same-bytes (suc n) font other p h = rw (same-bytes n font other p (λ j l u. h j l (omega arith)), h (p + n) (omega arith) (omega arith))
+
+-- A byte's signed number, as code makes it at 16 bits: up by 8 bits, and down again with its sign.
+pub shifted : (x : ℕ) → x < 0x100 → toZ w16 (ofZ w16 (shrZ (toZ w16 (x * 256)) (2 ^ 8))) ≡ toZ w8 x
+shifted x h = go (ltb x 0x80) refl
+  where
+    go : (t : Bool) → ltb x 0x80 ≡ t → toZ w16 (ofZ w16 (shrZ (toZ w16 (x * 256)) (2 ^ 8))) ≡ toZ w8 x
+    go true e =
+        let b = ltb-true x 0x80 e in
+        let q : x * 256 / 256 ≡ x = omega arith in
+        simp (lt-ltb (x * 256) 0x8000 (omega arith), q, lt-ltb x 0x8000 (omega arith), e)
+    go false e =
+        let b = ltb-false x 0x80 e in
+        let up : toZ w16 (x * 256) ≡ negsuc (0xffff - x * 256) = simp (le-ltb (x * 256) 0x8000 (omega arith)) (ap negsuc (omega arith)) in
+        let q : (0xffff - x * 256) / 256 ≡ 0xff - x = omega arith in
+        let n = 0x1_0000 - suc (0xff - x) in
+        rw (up, q) (simp (le-ltb n 0x8000 (omega arith), e) (ap negsuc (omega arith)))

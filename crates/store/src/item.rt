@@ -11,9 +11,10 @@ use readers::i16_at;
 use readers::u16_at;
 use readers::u32_at;
 ghost use mathlib.Core.Path.{_≡_};
-ghost use Prim.Native.Nat.{_^_, _<_};
+ghost use Prim.Native.Nat.{_+_, _*_, _^_, _<_};
 ghost use Rattle.readers.specs.Reading.{run};
 ghost use Rattle.readers.specs.Answers.{outcome16, outcomeI16, outcomeFixed};
+ghost use Rattle.opentype.specs.Region.{regionScalar};
 ghost use Rattle.opentype.specs.Item.{regionList, rowAt, itemAt, regionIndexAt, deltaAt, itemSum, itemDelta};
 ghost use Rattle.store.specs.ItemAnswers.{regionsOutcome, rowOutcome, itemOf, itemOutcome};
 
@@ -137,6 +138,21 @@ fn delta_at(font: &[u8], row: usize, word_count: u16, k: u16) -> Signed
         return i16_at(font, row + 2 * (k as usize));
     }
     i8_at(font, row + ((word_count as usize) + (k as usize)))
+}
+
+// The scalar of a region of the list at an offset from a store. A row's sum has the list's numbers at hand, and does without.
+pub fn scalar_in(
+    font: &[u8],
+    store: u32,
+    offset: u32,
+    axis_count: u16,
+    region: u16,
+    coords: &[i16],
+) -> FixedAnswer
+    ensures { λ r. ⌜ outcomeFixed r ≡ run (now (font .entry)) (regionScalar (now (coords .entry)) «axis_count» (store + offset + 4 + 6 * (region * «axis_count»))) ⌝ }
+{
+    let regions = (store as usize) + (offset as usize) + 4;
+    region_scalar(font, regions, region, axis_count, coords)
 }
 
 // The sum over a row: of each region in turn its index, its scalar, its entry.

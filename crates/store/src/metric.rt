@@ -34,19 +34,19 @@ enum DeltaSetAnswer {
 }
 
 // Where the delta of a measure is: a store, and the index of a delta set in it.
-struct Place {
-    store: u32,
-    outer: u32,
-    inner: u16,
+pub struct Place {
+    pub store: u32,
+    pub outer: u32,
+    pub inner: u16,
 }
 
-enum PlaceAnswer {
+pub enum PlaceAnswer {
     Value(Place),
     Refused(Refusal),
 }
 
 // Where the store of a table at base is.
-fn store_of(font: &[u8], base: u32) -> Word
+pub fn store_of(font: &[u8], base: u32) -> Word
     ensures { λ r. ⌜ outcome32 r ≡ run (now (font .entry)) (storeOf base) ⌝ }
 {
     if base == 0 {
@@ -129,7 +129,7 @@ fn map_entry(font: &[u8], at: usize, glyph_id: u16) -> DeltaSetAnswer
 }
 
 // Where a table has the offset of a measure's map.
-fn map_field(measure: Measure) -> usize
+pub fn map_field(measure: Measure) -> usize
     ensures { λ r. ⌜ (r ≡ mapField (measureOf measure)) × (r ≤ 12) ⌝ }
 {
     match measure {

@@ -35,7 +35,7 @@ pub enum HeaderAnswer {
 }
 
 // Where a record starts.
-enum Found {
+pub enum Found {
     At(usize),
     Refused(Refusal),
 }
@@ -69,7 +69,7 @@ fn header_at(data: &[u8]) -> HeaderAnswer
 }
 
 // swash's walk: the middle of what is left, whether or not the records are sorted.
-fn find(data: &[u8], rec_size: u16, rec_count: u16, tag: u32) -> Found
+pub fn find(data: &[u8], rec_size: u16, rec_count: u16, tag: u32) -> Found
     ensures { λ r. ⌜ foundOutcome r ≡ run (now («data» .entry)) (find (headerOf «rec_size» «rec_count» 0) tag) ⌝ }
 {
     let size = rec_size as usize;

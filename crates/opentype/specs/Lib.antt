@@ -1,4 +1,4 @@
--- fvar, avar and coordinate lists; the item variation store, HVAR and VVAR, MVAR; hmtx and vmtx, VORG; the footprint of a delta, over which demand 3 is stated.
+-- fvar, avar and coordinate lists; the item variation store, HVAR and VVAR, MVAR, and their deltas with a list of scalars; hmtx and vmtx, VORG; the footprint of a delta, over which demand 3 is stated.
 pub mod Axis
 pub mod Avar
 pub mod Fvar
@@ -11,6 +11,7 @@ pub mod Search
 pub mod Mvar
 pub mod MvarTags
 pub mod MvarDeltas
+pub mod Lines
 pub mod Xmtx
 pub mod Vorg
 pub mod Footprint

@@ -1,6 +1,6 @@
 -- No second answer: for each public function, two answers that its contract allows are the same, and so is the list that it leaves. Assumes nothing.
 use mathlib.Core.Path.{_≡_, sym, _∙_}
-use Rattle.numbers.specs.One.{One}
+use Rattle.numbers.specs.One.{One, OneSeen, _and_}
 use Rattle.readers.proofs.One.{one16, oneFixed}
 use Rattle.lines.proofs.filling.fill_scalars.Reads as fill-scalars
 use Rattle.lines.proofs.item.item_delta_with.Reads as item-delta-with
@@ -12,8 +12,8 @@ use Rattle.lines.proofs.metric.sb_delta_with.Reads as sb-delta-with
 use Rattle.lines.proofs.mvar.mvar_store.Reads as mvar-store
 use Rattle.lines.proofs.mvar.mvar_delta_with.Reads as mvar-delta-with
 
-pub fill-scalars-one : (κs : _) (a : _) (r r′ : _) (s s′ : _) → fill-scalars.Post κs a r s → fill-scalars.Post κs a r′ s′ → (r ≡ r′) × (s .1 .1 .1 .0 .now ≡ s′ .1 .1 .1 .0 .now)
-fill-scalars-one κs a r r′ s s′ p q = (one16 (p .0) (q .0), p .1 ∙ sym (q .1))
+pub fill-scalars-one : OneSeen fill-scalars.Post (λ r s. r and s .1 .1 .1 .0 .now)
+fill-scalars-one κs a r r′ s s′ p q = let same : r ≡ r′ = one16 (p .0) (q .0) in cc
 
 pub item-delta-with-one : One item-delta-with.Post
 item-delta-with-one κs a r r′ s s′ p q = oneFixed p q

@@ -1,6 +1,8 @@
 -- No second answer: for each export two numbers that its contract allows are the same, and so is all that it writes. Assumes nothing.
 use mathlib.Core.Path.{sym, _∙_}
 use Rattle.numbers.specs.One.{One, OneSeen, _and_}
+use Rattle.suolluvik.proofs.counts.count_value.Reads as count-value
+use Rattle.suolluvik.proofs.deltas.float_value.Reads as float-value
 use Rattle.suolluvik.proofs.deltas.suolluvik_advance_delta_fixed.Reads as advance-delta-fixed
 use Rattle.suolluvik.proofs.deltas.suolluvik_advance_delta.Reads as advance-delta
 use Rattle.suolluvik.proofs.deltas.suolluvik_sb_delta_fixed.Reads as sb-delta-fixed
@@ -32,7 +34,21 @@ use Rattle.suolluvik.proofs.tables.suolluvik_xmtx_sb.Reads as xmtx-sb
 use Rattle.suolluvik.proofs.tables.suolluvik_vorg_origin.Reads as vorg-origin
 use Rattle.suolluvik.proofs.tables.suolluvik_adjusted_advance.Reads as adjusted-advance
 use Rattle.suolluvik.proofs.tables.suolluvik_adjusted_sb.Reads as adjusted-sb
+use Rattle.suolluvik.proofs.scalars.suolluvik_store_offset.Reads as store-offset
+use Rattle.suolluvik.proofs.scalars.suolluvik_mvar_store_offset.Reads as mvar-store-offset
+use Rattle.suolluvik.proofs.scalars.suolluvik_advance_delta_fixed_with.Reads as advance-delta-fixed-with
+use Rattle.suolluvik.proofs.scalars.suolluvik_sb_delta_fixed_with.Reads as sb-delta-fixed-with
+use Rattle.suolluvik.proofs.scalars.suolluvik_sb_delta_with.Reads as sb-delta-with
+use Rattle.suolluvik.proofs.scalars.suolluvik_mvar_delta_fixed_with.Reads as mvar-delta-fixed-with
+use Rattle.suolluvik.proofs.scalars.suolluvik_mvar_delta_with.Reads as mvar-delta-with
 use Rattle.suolluvik.proofs.version.suolluvik_version.Reads as version
+
+-- What writes a count, and a delta's float, is the line's too.
+pub count-value-one : OneSeen count-value.Post (λ r s. r and s .1 .0 .now)
+count-value-one κs a r r′ s s′ p q = p ∙ sym q
+
+pub float-value-one : OneSeen float-value.Post (λ r s. r and s .1 .0 .now)
+float-value-one κs a r r′ s s′ p q = p ∙ sym q
 
 pub advance-delta-fixed-one : OneSeen advance-delta-fixed.Post (λ r s. r and s .1 .1 .1 .1 .0 .now)
 advance-delta-fixed-one κs a r r′ s s′ p q = p ∙ sym q
@@ -51,6 +67,27 @@ mvar-delta-fixed-one κs a r r′ s s′ p q = p ∙ sym q
 
 pub mvar-delta-one : OneSeen mvar-delta.Post (λ r s. r and s .1 .1 .1 .1 .0 .now)
 mvar-delta-one κs a r r′ s s′ p q = p ∙ sym q
+
+pub store-offset-one : OneSeen store-offset.Post (λ r s. r and s .1 .1 .0 .now)
+store-offset-one κs a r r′ s s′ p q = p ∙ sym q
+
+pub mvar-store-offset-one : OneSeen mvar-store-offset.Post (λ r s. r and s .1 .1 .0 .now)
+mvar-store-offset-one κs a r r′ s s′ p q = p ∙ sym q
+
+pub advance-delta-fixed-with-one : OneSeen advance-delta-fixed-with.Post (λ r s. r and s .1 .1 .1 .1 .0 .now)
+advance-delta-fixed-with-one κs a r r′ s s′ p q = p ∙ sym q
+
+pub sb-delta-fixed-with-one : OneSeen sb-delta-fixed-with.Post (λ r s. r and s .1 .1 .1 .1 .0 .now)
+sb-delta-fixed-with-one κs a r r′ s s′ p q = p ∙ sym q
+
+pub sb-delta-with-one : OneSeen sb-delta-with.Post (λ r s. r and s .1 .1 .1 .1 .0 .now)
+sb-delta-with-one κs a r r′ s s′ p q = p ∙ sym q
+
+pub mvar-delta-fixed-with-one : OneSeen mvar-delta-fixed-with.Post (λ r s. r and s .1 .1 .1 .1 .0 .now)
+mvar-delta-fixed-with-one κs a r r′ s s′ p q = p ∙ sym q
+
+pub mvar-delta-with-one : OneSeen mvar-delta-with.Post (λ r s. r and s .1 .1 .1 .1 .0 .now)
+mvar-delta-with-one κs a r r′ s s′ p q = p ∙ sym q
 
 pub axis-count-one : One axis-count.Post
 axis-count-one κs a r r′ s s′ p q = p ∙ sym q

@@ -5,7 +5,7 @@ ghost use Rattle.readers.specs.Answers.{outcome16};
 ghost use Rattle.suolluvik.specs.Numbered.{numbered};
 
 // The count of an answer; 0 on a refusal.
-pub(crate) fn count_value(answer: Half, count: &mut u16) -> u8
+pub fn count_value(answer: Half, count: &mut u16) -> u8
     ensures { λ r. ⌜ (r, now (count .exit)) ≡ numbered 0 (outcome16 answer) ⌝ }
 {
     match answer {

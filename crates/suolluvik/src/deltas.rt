@@ -12,7 +12,7 @@ ghost use Rattle.opentype.specs.Mvar.{mvarDelta};
 ghost use Rattle.suolluvik.specs.Numbered.{numbered, numberedFloat};
 
 // A delta as its raw number.
-fn fixed_value(delta: FixedAnswer, value: &mut i32) -> u8
+pub(crate) fn fixed_value(delta: FixedAnswer, value: &mut i32) -> u8
     ensures { λ r. ⌜ (r, now (value .exit)) ≡ numbered (pos 0) (outcomeFixed delta) ⌝ }
 {
     match delta {
@@ -29,7 +29,7 @@ fn fixed_value(delta: FixedAnswer, value: &mut i32) -> u8
 }
 
 // A delta as a float.
-fn float_value(delta: FixedAnswer, value: &mut f32) -> u8
+pub fn float_value(delta: FixedAnswer, value: &mut f32) -> u8
     ensures { λ r. ⌜ (r, now (value .exit)) ≡ numberedFloat (outcomeFixed delta) ⌝ }
 {
     *value = float_of(delta);

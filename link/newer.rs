@@ -1,7 +1,7 @@
 //! A library that is newer than the wrapper may refuse by a number that has no name there. The one that this is linked to
-//! refuses whatever it is asked by 8, and writes nothing; `tests/link` makes it from the header, and builds and runs this. Each
-//! function of `suolluvik.rs` that can refuse must hand the number on, and leave its lists as they were. A failed check is a
-//! line; the last line is 'N passed, M failed', and the status 1 where one failed.
+//! refuses whatever it is asked by 8, but for a list that its deltas hang on, and writes nothing; `tests/link` makes it from the
+//! header, and builds and runs this. Each function of `suolluvik.rs` that can refuse must hand the number on, and leave its lists
+//! as they were. A failed check is a line; the last line is 'N passed, M failed', and the status 1 where one failed.
 
 #[allow(dead_code)]
 mod suolluvik;
@@ -39,6 +39,38 @@ fn deltas(t: &mut Test) {
     t.refused("sb_delta", sb_delta(&[], 4, 0, &[]));
     t.refused("mvar_delta_fixed", mvar_delta_fixed(&[], 4, 0, &[]));
     t.refused("mvar_delta", mvar_delta(&[], 4, 0, &[]));
+}
+
+/// With a font the stores are found, and with coordinates a list is filled, of no regions: so its deltas can be asked for.
+fn lists(t: &mut Test) {
+    let mut list = [-77; 2];
+    t.refused("store_offset", store_offset(&[], 4));
+    t.refused("mvar_store_offset", mvar_store_offset(&[], 4));
+    let found = Scalars::fill(&[], 4, &[0], &mut list);
+    t.refused("Scalars: no store", found);
+    t.refused("Scalars: fill", Scalars::fill(&[0], 4, &[], &mut list));
+    let found = MvarScalars::fill(&[], 4, &[0], &mut list);
+    t.refused("MvarScalars: no store", found);
+    let found = MvarScalars::fill(&[0], 4, &[], &mut list);
+    t.refused("MvarScalars: fill", found);
+    t.check("the list of scalars", list == [-77; 2], list);
+    match Scalars::fill(&[0], 4, &[0], &mut list) {
+        Ok(scalars) => {
+            t.refused("Scalars: advance_delta", scalars.advance_delta(0));
+            let found = scalars.advance_delta_fixed(0);
+            t.refused("Scalars: advance_delta_fixed", found);
+            t.refused("Scalars: sb_delta", scalars.sb_delta(0));
+            t.refused("Scalars: sb_delta_fixed", scalars.sb_delta_fixed(0));
+        }
+        found => t.check("Scalars: filled", false, found),
+    }
+    match MvarScalars::fill(&[0], 0, &[0], &mut list) {
+        Ok(scalars) => {
+            t.refused("MvarScalars: delta", scalars.delta(0));
+            t.refused("MvarScalars: delta_fixed", scalars.delta_fixed(0));
+        }
+        found => t.check("MvarScalars: filled", false, found),
+    }
 }
 
 fn axes(t: &mut Test) {
@@ -114,6 +146,7 @@ fn main() -> ExitCode {
     let mut t = Test::default();
     t.check("version", version() == VERSION + 1, version());
     deltas(&mut t);
+    lists(&mut t);
     axes(&mut t);
     measures(&mut t);
     glyphs(&mut t);

@@ -35,7 +35,7 @@ extern "C" {
 /* The version of this header, and that of the library. It rises by one when a function, a refusal or a size of the record
  * of measures is added; nothing is taken away. A library whose version is lower than the header's is older than it, and
  * has not all that the header says. */
-#define SUOLLUVIK_VERSION 2
+#define SUOLLUVIK_VERSION 3
 uint32_t suolluvik_version(void);
 
 /* A later library may answer other numbers too: they are refusals like these. */
@@ -43,7 +43,7 @@ enum suolluvik_refusal {
     SUOLLUVIK_OK = 0,
     /* an offset of HVAR, VVAR, hmtx, vmtx, VORG, of the store or of a bearing map is 0, or an MVAR has no records */
     SUOLLUVIK_ABSENT = 1,
-    /* a read reaches past the end */
+    /* a read reaches past the end, or did when the list of scalars was filled */
     SUOLLUVIK_SHORT = 2,
     /* an axis, instance, subtable, row or region index, or the number of a vertical case, is not below its count */
     SUOLLUVIK_INDEX = 3,
@@ -54,7 +54,8 @@ enum suolluvik_refusal {
     SUOLLUVIK_ARITHMETIC = 5,
     /* tags and values differ in number */
     SUOLLUVIK_LENGTHS = 6,
-    /* a list is too short for what is to be written, or no record of measures has this many floats */
+    /* a list is too short for what is to be written, a list of scalars has fewer numbers than there are regions, or no record
+     * of measures has this many floats */
     SUOLLUVIK_ROOM = 7
 };
 
@@ -76,6 +77,43 @@ uint8_t suolluvik_mvar_delta_fixed(const uint8_t *font, size_t font_len, uint32_
                                    const int16_t *coords, size_t coords_len, int32_t *value);
 uint8_t suolluvik_mvar_delta(const uint8_t *font, size_t font_len, uint32_t mvar, uint32_t tag,
                              const int16_t *coords, size_t coords_len, float *value);
+
+/* For a line of type, the regions of a store are worked out once: their scalars are put into a list, a number for each region,
+ * and deltas are then read with the list and without coordinates. For every glyph and tag a filled list gives what the six
+ * functions above give at those coordinates, refusals included. It belongs to one store of one font, and to the coordinates that
+ * it was filled for: by another list the number is another one. 65535 numbers have room for every store. */
+
+/* The offset of the store of the HVAR or VVAR at the offset xvar. Refused by 1 where there is no xvar or no store, by 2, and by 5
+ * where it is 2^32 or more. */
+uint8_t suolluvik_store_offset(const uint8_t *font, size_t font_len, uint32_t xvar, uint32_t *value);
+
+/* The offset of the store of the MVAR at the offset mvar, from where that MVAR starts, as all offsets of an MVAR are: its list is
+ * filled with the part of the font from there on, font + mvar and font_len - mvar. Refused by 2, else by 1 where there are no
+ * records or no store; where it is not, mvar is at most font_len. An mvar of 0 is opened like any other. */
+uint8_t suolluvik_mvar_store_offset(const uint8_t *font, size_t font_len, uint32_t mvar, uint32_t *value);
+
+/* Fills a list for the store at the offset `store`: each region's scalar, from 0 to 65536, or -1 where its record runs out
+ * before the scalar is known. count is how many regions there are; elements beyond stay. Refused by 1 for an offset of 0, by 2
+ * where the number of regions can't be read, and by 7 for a list that has fewer elements. */
+uint8_t suolluvik_fill_scalars(const uint8_t *font, size_t font_len, uint32_t store, const int16_t *coords,
+                               size_t coords_len, int32_t *scalars, size_t scalars_len, uint16_t *count);
+
+/* The deltas above, read with a list. xvar and mvar are what the list's store was found by, and the font is the whole one, for an
+ * MVAR too. Besides what is refused above: by 7 for a list that has fewer numbers than the store has regions, just before the
+ * glyph's or tag's regions are read, and even where it has none; by 2 for a region that has -1. Any other number is taken for a
+ * scalar, modulo 2^32. */
+uint8_t suolluvik_advance_delta_fixed_with(const uint8_t *font, size_t font_len, uint32_t xvar, uint16_t glyph_id,
+                                           const int32_t *scalars, size_t scalars_len, int32_t *value);
+uint8_t suolluvik_advance_delta_with(const uint8_t *font, size_t font_len, uint32_t xvar, uint16_t glyph_id,
+                                     const int32_t *scalars, size_t scalars_len, float *value);
+uint8_t suolluvik_sb_delta_fixed_with(const uint8_t *font, size_t font_len, uint32_t xvar, uint16_t glyph_id,
+                                      const int32_t *scalars, size_t scalars_len, int32_t *value);
+uint8_t suolluvik_sb_delta_with(const uint8_t *font, size_t font_len, uint32_t xvar, uint16_t glyph_id,
+                                const int32_t *scalars, size_t scalars_len, float *value);
+uint8_t suolluvik_mvar_delta_fixed_with(const uint8_t *font, size_t font_len, uint32_t mvar, uint32_t tag,
+                                        const int32_t *scalars, size_t scalars_len, int32_t *value);
+uint8_t suolluvik_mvar_delta_with(const uint8_t *font, size_t font_len, uint32_t mvar, uint32_t tag,
+                                  const int32_t *scalars, size_t scalars_len, float *value);
 
 /* How many axes fvar's header counts, and how many instances; 0 where that can't be read. */
 uint16_t suolluvik_axis_count(const uint8_t *fvar, size_t fvar_len);

@@ -75,6 +75,82 @@ mod exports {
             coords_len: usize,
             value: *mut f32,
         ) -> u8;
+        pub fn suolluvik_store_offset(
+            font: *const u8,
+            font_len: usize,
+            xvar: u32,
+            value: *mut u32,
+        ) -> u8;
+        pub fn suolluvik_mvar_store_offset(
+            font: *const u8,
+            font_len: usize,
+            mvar: u32,
+            value: *mut u32,
+        ) -> u8;
+        pub fn suolluvik_fill_scalars(
+            font: *const u8,
+            font_len: usize,
+            store: u32,
+            coords: *const i16,
+            coords_len: usize,
+            scalars: *mut i32,
+            scalars_len: usize,
+            count: *mut u16,
+        ) -> u8;
+        pub fn suolluvik_advance_delta_fixed_with(
+            font: *const u8,
+            font_len: usize,
+            xvar: u32,
+            glyph_id: u16,
+            scalars: *const i32,
+            scalars_len: usize,
+            value: *mut i32,
+        ) -> u8;
+        pub fn suolluvik_advance_delta_with(
+            font: *const u8,
+            font_len: usize,
+            xvar: u32,
+            glyph_id: u16,
+            scalars: *const i32,
+            scalars_len: usize,
+            value: *mut f32,
+        ) -> u8;
+        pub fn suolluvik_sb_delta_fixed_with(
+            font: *const u8,
+            font_len: usize,
+            xvar: u32,
+            glyph_id: u16,
+            scalars: *const i32,
+            scalars_len: usize,
+            value: *mut i32,
+        ) -> u8;
+        pub fn suolluvik_sb_delta_with(
+            font: *const u8,
+            font_len: usize,
+            xvar: u32,
+            glyph_id: u16,
+            scalars: *const i32,
+            scalars_len: usize,
+            value: *mut f32,
+        ) -> u8;
+        pub fn suolluvik_mvar_delta_fixed_with(
+            font: *const u8,
+            font_len: usize,
+            mvar: u32,
+            tag: u32,
+            scalars: *const i32,
+            scalars_len: usize,
+            value: *mut i32,
+        ) -> u8;
+        pub fn suolluvik_mvar_delta_with(
+            font: *const u8,
+            font_len: usize,
+            mvar: u32,
+            tag: u32,
+            scalars: *const i32,
+            scalars_len: usize,
+            value: *mut f32,
+        ) -> u8;
         pub fn suolluvik_axis_count(fvar: *const u8, fvar_len: usize) -> u16;
         pub fn suolluvik_instance_count(fvar: *const u8, fvar_len: usize) -> u16;
         pub fn suolluvik_axis(
@@ -289,7 +365,7 @@ mod exports {
 
 /// The version of the interface that is wrapped here. It rises by one when a function, a refusal or a size of the record of
 /// measures is added; nothing is taken away.
-pub const VERSION: u32 = 2;
+pub const VERSION: u32 = 3;
 
 /// The version of the library that is linked. Where it is lower than [`VERSION`] the library is older than this file.
 pub fn version() -> u32 {
@@ -302,7 +378,7 @@ pub fn version() -> u32 {
 pub enum Refusal {
     /// An offset of HVAR, VVAR, hmtx, vmtx, VORG, of the store or of a bearing map is 0, or an MVAR has no records.
     Absent,
-    /// A read reaches past the end.
+    /// A read reaches past the end, or did when the list of scalars was filled.
     Short,
     /// An axis, instance, subtable, row or region index is not below its count.
     Index,
@@ -313,7 +389,8 @@ pub enum Refusal {
     Arithmetic,
     /// Tags and values differ in number.
     Lengths,
-    /// A list is too short for what is to be written, or the library has no record of measures of this size.
+    /// A list is too short for what is to be written, a list of scalars has fewer numbers than there are regions, or the
+    /// library has no record of measures of this size.
     Room,
     /// A number that has no name here: the library is newer than this file.
     Other(u8),
@@ -414,6 +491,177 @@ delta! {
 delta! {
     /// The same as a float.
     mvar_delta, suolluvik_mvar_delta, tag: u32, mvar, f32
+}
+
+/// The offset of the store of the HVAR or VVAR at the offset xvar, which [`Scalars::fill`] asks for by itself. No xvar or no store
+/// is [`Refusal::Absent`], an offset of 2^32 or more [`Refusal::Arithmetic`].
+pub fn store_offset(font: &[u8], xvar: u32) -> Result<u32, Refusal> {
+    let mut value = 0;
+    let number =
+        unsafe { exports::suolluvik_store_offset(font.as_ptr(), font.len(), xvar, &mut value) };
+    answer(number, value)
+}
+
+/// The offset of the store of the MVAR at the offset mvar, from where that MVAR starts; [`MvarScalars::fill`] asks for it by
+/// itself. No records or no store is [`Refusal::Absent`]; an mvar of 0 is opened like any other.
+pub fn mvar_store_offset(font: &[u8], mvar: u32) -> Result<u32, Refusal> {
+    let mut value = 0;
+    let number = unsafe {
+        exports::suolluvik_mvar_store_offset(font.as_ptr(), font.len(), mvar, &mut value)
+    };
+    answer(number, value)
+}
+
+/// Fills a list for the store at an offset, and cuts it to the number of its regions.
+fn filled<'a>(
+    font: &[u8],
+    store: u32,
+    coords: &[i16],
+    list: &'a mut [i32],
+) -> Result<&'a [i32], Refusal> {
+    let mut count = 0;
+    let number = unsafe {
+        exports::suolluvik_fill_scalars(
+            font.as_ptr(),
+            font.len(),
+            store,
+            coords.as_ptr(),
+            coords.len(),
+            list.as_mut_ptr(),
+            list.len(),
+            &mut count,
+        )
+    };
+    // a list that was filled is as long as that at least
+    let list = list.get(..usize::from(count)).unwrap_or_default();
+    answer(number, list)
+}
+
+// Each delta has a form that is read with a list.
+macro_rules! delta_with {
+    ($(#[$doc:meta])* $name:ident, $export:ident, $id:ident: $id_type:ty, $table:ident, $value:ty) => {
+        $(#[$doc])*
+        pub fn $name(&self, $id: $id_type) -> Result<$value, Refusal> {
+            let mut value = <$value>::default();
+            let number = unsafe {
+                exports::$export(
+                    self.font.as_ptr(),
+                    self.font.len(),
+                    self.$table,
+                    $id,
+                    self.list.as_ptr(),
+                    self.list.len(),
+                    &mut value,
+                )
+            };
+            answer(number, value)
+        }
+    };
+}
+
+/// The scalars of an HVAR's or VVAR's regions at some coordinates, for a line of type: the regions are worked out once, and each
+/// delta is then read with no coordinates. For every glyph it is exactly the one at those coordinates, refusals included.
+///
+/// Font and list are borrowed, so that neither can change before the last delta is read; and there are no scalars that are not
+/// filled.
+#[derive(Copy, Clone)]
+pub struct Scalars<'a> {
+    font: &'a [u8],
+    xvar: u32,
+    list: &'a [i32],
+}
+
+impl<'a> Scalars<'a> {
+    /// Fills the first elements of a list, by the HVAR or VVAR at the offset xvar; those beyond stay. A list that has fewer
+    /// elements than there are regions is [`Refusal::Room`]; 65535 have room for every font. Else it is refused as
+    /// [`store_offset`] is, or as [`Refusal::Short`] where the number of regions can't be read.
+    pub fn fill(
+        font: &'a [u8],
+        xvar: u32,
+        coords: &[i16],
+        list: &'a mut [i32],
+    ) -> Result<Scalars<'a>, Refusal> {
+        let list = filled(font, store_offset(font, xvar)?, coords, list)?;
+        Ok(Scalars { font, xvar, list })
+    }
+
+    /// A number for each region: its scalar, from 0 to 65536, or -1 where its record runs out before that is known.
+    pub fn as_slice(&self) -> &'a [i32] {
+        self.list
+    }
+
+    delta_with! {
+        /// What [`advance_delta_fixed`] answers.
+        advance_delta_fixed, suolluvik_advance_delta_fixed_with, glyph_id: u16, xvar, i32
+    }
+    delta_with! {
+        /// What [`advance_delta`] answers.
+        advance_delta, suolluvik_advance_delta_with, glyph_id: u16, xvar, f32
+    }
+    delta_with! {
+        /// What [`sb_delta_fixed`] answers.
+        sb_delta_fixed, suolluvik_sb_delta_fixed_with, glyph_id: u16, xvar, i32
+    }
+    delta_with! {
+        /// What [`sb_delta`] answers.
+        sb_delta, suolluvik_sb_delta_with, glyph_id: u16, xvar, f32
+    }
+}
+
+/// Shows the list, and of the font nothing.
+impl std::fmt::Debug for Scalars<'_> {
+    fn fmt(&self, f: &mut std::fmt::Formatter) -> std::fmt::Result {
+        std::fmt::Debug::fmt(self.list, f)
+    }
+}
+
+/// The scalars of an MVAR's regions at some coordinates, in the same way: an MVAR has a store of its own.
+#[derive(Copy, Clone)]
+pub struct MvarScalars<'a> {
+    font: &'a [u8],
+    mvar: u32,
+    list: &'a [i32],
+}
+
+impl<'a> MvarScalars<'a> {
+    /// Fills the first elements of a list, by the MVAR at the offset mvar; those beyond stay. Refused as [`Scalars::fill`] is, but
+    /// for the offset: as [`mvar_store_offset`] is.
+    pub fn fill(
+        font: &'a [u8],
+        mvar: u32,
+        coords: &[i16],
+        list: &'a mut [i32],
+    ) -> Result<MvarScalars<'a>, Refusal> {
+        let store = mvar_store_offset(font, mvar)?;
+        // all offsets of an MVAR count from its start, which is within the font where it opens
+        let start = usize::try_from(mvar).ok();
+        let part = start
+            .and_then(|start| font.get(start..))
+            .unwrap_or_default();
+        let list = filled(part, store, coords, list)?;
+        Ok(MvarScalars { font, mvar, list })
+    }
+
+    /// A number for each region, as [`Scalars::as_slice`] has them.
+    pub fn as_slice(&self) -> &'a [i32] {
+        self.list
+    }
+
+    delta_with! {
+        /// What [`mvar_delta_fixed`] answers.
+        delta_fixed, suolluvik_mvar_delta_fixed_with, tag: u32, mvar, i32
+    }
+    delta_with! {
+        /// What [`mvar_delta`] answers.
+        delta, suolluvik_mvar_delta_with, tag: u32, mvar, f32
+    }
+}
+
+/// Shows the list, and of the font nothing.
+impl std::fmt::Debug for MvarScalars<'_> {
+    fn fmt(&self, f: &mut std::fmt::Formatter) -> std::fmt::Result {
+        std::fmt::Debug::fmt(self.list, f)
+    }
 }
 
 /// How many axes fvar's header counts; 0 where that can't be read.

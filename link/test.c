@@ -70,6 +70,12 @@ static struct bytes bytes(const char *hex)
 #define XVAR(rows) XVAR_COUNTED("0004", rows)
 #define BOTH "00000000" XVAR("6414 280c 0af8 e232") XVAR("3c08 1810 1404 0602")
 
+/* Two regions behind two subtables and a map: glyph 0 has the first one, the others have the second, which goes down to -1 on the
+ * first axis; of its second axis the triple is cut. */
+#define CUT \
+    HVAR("00000010", "00000032", "00000032") "0001 00000028 0002 00000010 00000019 0001 0000 0001 0000 64" \
+    "0001 0000 0001 0001 0a 0000 0002 0002 0002 0002 000040004000 000000000000 c000c0000000 0000"
+
 /* An MVAR at 4 with the eleven measures, sorted; inner comes before outer. Its rows have a word for the first axis, and a byte
  * for the second, where a missing coordinate is 0. */
 #define MVAR_HEADER(count, store) "00000000 0001 0000 0000 0008" count store
@@ -151,6 +157,14 @@ static const struct delta deltas[] = {
     {BEARING, "HVAR, glyph 256", BOTH, 4, 256, 2, {8192, -4096}, 0, -163840},
     {BEARING, "VVAR, two axes", BOTH, 90, 0, 2, {8192, -4096}, 0, 720896},
     {BEARING, "VVAR, glyph 256", BOTH, 90, 256, 2, {8192, -4096}, 0, 229376},
+    {ADVANCE, "a cut region that is not named", CUT, 4, 0, 1, {8192}, 0, 3276800},
+    {ADVANCE, "a cut region that is not named, left outside", CUT, 4, 0, 1, {-8192}, 0, 0},
+    {ADVANCE, "a cut region", CUT, 4, 1, 1, {-8192}, 2, 0},
+    {ADVANCE, "a cut region, a scalar of 0 before", CUT, 4, 1, 0, {0}, 2, 0},
+    {ADVANCE, "a cut region, left outside before", CUT, 4, 1, 1, {8192}, 0, 0},
+    {BEARING, "a cut region that is not named", CUT, 4, 0, 1, {8192}, 0, 3276800},
+    {BEARING, "a cut region", CUT, 4, 256, 1, {-8192}, 2, 0},
+    {BEARING, "a cut region, left outside before", CUT, 4, 256, 1, {1}, 0, 0},
     {MEASURE, "hasc, two axes", MEASURES, 4, HASC, 2, {8192, -4096}, 0, 3309568},
     {MEASURE, "hdsc, two axes", MEASURES, 4, TAG('h', 'd', 's', 'c'), 2, {8192, -4096}, 0, -1916928},
     {MEASURE, "hasc halfway", MEASURES, 4, HASC, 1, {8192}, 0, 3276800},
@@ -197,6 +211,360 @@ static void try_deltas(void)
         check(number == d->number && value == d->value, names[d->kind][0], d->name);
         /* each of these numbers is a float */
         check(number_of_real == d->number && real == (float)d->value / 65536.0f && (d->number == 0 || !signbit(real)), names[d->kind][1], d->name);
+    }
+}
+
+/* Lists of scalars. */
+
+static void try_store(const char *name, const char *hex, uint32_t xvar, uint8_t number, uint32_t expected)
+{
+    struct bytes font = bytes(hex);
+    uint32_t value = 77;
+    uint8_t found = suolluvik_store_offset(font.at, font.len, xvar, &value);
+    check(found == number && value == expected, "store_offset", name);
+}
+
+static void try_mvar_store(const char *name, const char *hex, uint32_t mvar, uint8_t number, uint32_t expected)
+{
+    struct bytes font = bytes(hex);
+    uint32_t value = 77;
+    uint8_t found = suolluvik_mvar_store_offset(font.at, font.len, mvar, &value);
+    check(found == number && value == expected, "mvar_store_offset", name);
+}
+
+static void try_stores(void)
+{
+    try_store("S1", S1, 4, 0, 20);
+    try_store("H1", H1, 4, 0, 28);
+    try_store("HVAR", BOTH, 4, 0, 20);
+    try_store("VVAR", BOTH, 90, 0, 106);
+    try_store("a font that ends behind it", "00000000 00010000 00012345", 4, 0, 0x12349);
+    try_store("the last one", "00000000 00010000 fffffffb", 4, 0, 0xffffffff);
+    try_store("2^32", "00000000 00010000 fffffffc", 4, 5, 0);
+    try_store("no HVAR", S1, 0, 1, 0);
+    try_store("no HVAR, no font", "", 0, 1, 0);
+    try_store("no store", HVAR("00000000", "00000000", "00000000"), 4, 1, 0);
+    try_store("an empty font", "", 4, 2, 0);
+    try_store("cut", "00000000 00010000 000000", 4, 2, 0);
+    try_store("an offset past 65536", S1, 65540, 2, 0);
+    try_store("an offset far past the end", S1, 0xffffffff, 2, 0);
+
+    try_mvar_store("the measures", MEASURES, 4, 0, 100);
+    try_mvar_store("an MVAR at 0", "0001 0000 0000 0008 0001 0014", 0, 0, 20);
+    try_mvar_store("the last one", MVAR_HEADER("8000", "ffff"), 4, 0, 65535);
+    try_mvar_store("no records", MVAR_HEADER("0000", "0064"), 4, 1, 0);
+    try_mvar_store("no store", MVAR_HEADER("000b", "0000"), 4, 1, 0);
+    try_mvar_store("cut in the size", "00000000 0001 0000 0000 00", 4, 2, 0);
+    try_mvar_store("cut in the count", "00000000 0001 0000 0000 0008 00", 4, 2, 0);
+    try_mvar_store("cut in the offset", "00000000 0001 0000 0000 0008 000b 00", 4, 2, 0);
+    try_mvar_store("no records, cut in the offset", "00000000 0001 0000 0000 0008 0000 00", 4, 2, 0);
+    try_mvar_store("an empty font", "", 0, 2, 0);
+    try_mvar_store("an offset past 65536", MEASURES, 65540, 2, 0);
+    try_mvar_store("an offset far past the end", MEASURES, 0xffffffff, 2, 0);
+}
+
+/* What stays. */
+#define K (-77)
+#define UNCUT 256
+
+struct filling {
+    const char *name, *font;
+    size_t cut;
+    uint32_t store;
+    size_t coords_len;
+    int16_t coords[2];
+    size_t room;
+    uint8_t number;
+    uint16_t count;
+    int32_t scalars[4];
+};
+
+static const struct filling fillings[] = {
+    {"S1 at 8192", S1, UNCUT, 20, 1, {8192}, 4, 0, 1, {32768, K, K, K}},
+    {"S1 at 16384", S1, UNCUT, 20, 1, {16384}, 1, 0, 1, {65536, K, K, K}},
+    {"S1 at 0", S1, UNCUT, 20, 1, {0}, 4, 0, 1, {0, K, K, K}},
+    {"S1, no coordinates", S1, UNCUT, 20, 0, {8192}, 4, 0, 1, {0, K, K, K}},
+    {"S2", S2, UNCUT, 20, 1, {4096}, 4, 0, 1, {21845, K, K, K}},
+    {"S3, no coordinates", S3, UNCUT, 20, 0, {0}, 4, 0, 1, {65536, K, K, K}},
+    {"S4", S4, UNCUT, 20, 1, {0}, 4, 0, 2, {65536, 65536, K, K}},
+    {"S5, no regions", S5, UNCUT, 20, 1, {0}, 4, 0, 0, {K, K, K, K}},
+    {"S5, no regions, no list", S5, UNCUT, 20, 1, {0}, 0, 0, 0, {K, K, K, K}},
+    {"two axes", BOTH, UNCUT, 20, 2, {8192, -4096}, 2, 0, 2, {32768, 16384, K, K}},
+    {"two axes, one coordinate", BOTH, UNCUT, 20, 1, {8192, -4096}, 4, 0, 2, {32768, 0, K, K}},
+    {"two axes, VVAR", BOTH, UNCUT, 106, 2, {4096, -16384}, 3, 0, 2, {16384, 65536, K, K}},
+    {"no store", S1, UNCUT, 0, 1, {8192}, 4, 1, 0, {K, K, K, K}},
+    {"no store, no list, no font", "", UNCUT, 0, 1, {8192}, 0, 1, 0, {K, K, K, K}},
+    {"an empty font", "", UNCUT, 20, 1, {8192}, 4, 2, 0, {K, K, K, K}},
+    {"cut in the region list's offset", S1, 25, 20, 1, {8192}, 4, 2, 0, {K, K, K, K}},
+    {"cut in the axis count", S1, 33, 20, 1, {8192}, 4, 2, 0, {K, K, K, K}},
+    {"cut in the region count", S1, 35, 20, 1, {8192}, 4, 2, 0, {K, K, K, K}},
+    {"cut in the region count, no list", S1, 35, 20, 1, {8192}, 0, 2, 0, {K, K, K, K}},
+    {"cut behind the counts", S1, 36, 20, 1, {8192}, 4, 0, 1, {-1, K, K, K}},
+    {"cut in the triple", S1, 41, 20, 1, {8192}, 4, 0, 1, {-1, K, K, K}},
+    {"cut in the triple, at -1", S1, 41, 20, 1, {-1}, 4, 0, 1, {-1, K, K, K}},
+    {"cut behind the triple", S1, 42, 20, 1, {8192}, 4, 0, 1, {32768, K, K, K}},
+    {"cut in the second region", BOTH, 59, 20, 2, {8192, -4096}, 4, 0, 2, {32768, -1, K, K}},
+    {"cut in the first region", BOTH, 47, 20, 2, {8192, -4096}, 4, 0, 2, {-1, -1, K, K}},
+    {"cut in the first region, a scalar of 0 before", BOTH, 47, 20, 2, {0, -4096}, 4, 0, 2, {-1, -1, K, K}},
+    {"cut in the first region, left outside before", BOTH, 47, 20, 2, {-1, -4096}, 4, 0, 2, {0, -1, K, K}},
+    {"a list that is too short", BOTH, UNCUT, 20, 2, {8192, -4096}, 1, 7, 0, {K, K, K, K}},
+    {"no list", S1, UNCUT, 20, 1, {8192}, 0, 7, 0, {K, K, K, K}},
+    {"no subtable count", "00000000 0001 00000002", UNCUT, 4, 1, {8192}, 4, 0, 2, {65536, 65536, K, K}},
+    {"a region list far past the end", "00000000 0001 ffffffff 0001", UNCUT, 4, 1, {8192}, 4, 2, 0, {K, K, K, K}},
+    {"an offset past 65536", S1, UNCUT, 65556, 1, {8192}, 4, 2, 0, {K, K, K, K}},
+    {"an offset far past the end", S1, UNCUT, 0xffffffff, 1, {8192}, 4, 2, 0, {K, K, K, K}},
+};
+
+/* Room for every store, and one element more. */
+static int32_t longest[65536];
+
+static void try_fillings(void)
+{
+    struct bytes font;
+    uint16_t count = 77;
+    uint8_t number;
+    size_t i;
+    int same = 1;
+    for (i = 0; i < sizeof fillings / sizeof *fillings; i++) {
+        const struct filling *f = &fillings[i];
+        int32_t list[4] = {K, K, K, K};
+        font = bytes(f->font);
+        if (font.len > f->cut)
+            font.len = f->cut;
+        count = 77;
+        number = suolluvik_fill_scalars(font.at, font.len, f->store, f->coords, f->coords_len, list, f->room, &count);
+        check(number == f->number && count == f->count, "fill_scalars", f->name);
+        check(memcmp(list, f->scalars, sizeof list) == 0, "fill_scalars, the list", f->name);
+    }
+
+    /* 65535 regions, and no axes */
+    font = bytes("00000000 0001 00000006 0000 ffff");
+    for (i = 0; i < 65536; i++)
+        longest[i] = K;
+    number = suolluvik_fill_scalars(font.at, font.len, 4, NULL, 0, longest, 65534, &count);
+    for (i = 0; i < 65536; i++)
+        same = same && longest[i] == K;
+    check(number == 7 && count == 0 && same, "fill_scalars", "a list of 65534");
+    number = suolluvik_fill_scalars(font.at, font.len, 4, NULL, 0, longest, 65535, &count);
+    for (i = 0; i < 65535; i++)
+        same = same && longest[i] == 65536;
+    check(number == 0 && count == 65535 && same && longest[65535] == K, "fill_scalars", "a list of 65535");
+}
+
+/* A store with two regions of which the row names the second; one whose row names none; one whose second index is wrong. */
+#define SECOND PLAIN "0001 0000000c 0001 0000001c 0001 0002 c00020004000 c00020004000 0001 0000 0001 0001 64"
+#define NONE PLAIN "0001 0000000c 0001 00000016 0001 0001 000040004000 0001 0000 0000"
+#define WRONG PLAIN "0001 0000000c 0001 0000001c 0001 0002 c00020004000 c00020004000 0001 0000 0002 0000 0005 02 03"
+/* S1 up to its region index, and up to the count of these less a byte. */
+#define UNNAMED PLAIN "0001 0000000c 0001 00000016 0001 0001 000040004000 0001 0000 0001"
+#define UNCOUNTED PLAIN "0001 0000000c 0001 00000016 0001 0001 000040004000 0001 0000 00"
+#define AT_0 "0001 0000 0000 0008 0001 0014 68617363 0000 0000" STORE("000040004000", "64")
+
+/* A delta that is read with the first ones of these. */
+struct reading {
+    enum kind kind;
+    const char *name, *font;
+    uint32_t offset, id;
+    size_t len;
+    int32_t scalars[3];
+    uint8_t number;
+    int32_t value;
+};
+
+static const struct reading readings[] = {
+    {ADVANCE, "S1", S1, 4, 0, 1, {12345}, 0, 1234500},
+    {ADVANCE, "a longer list", S1, 4, 0, 3, {12345, -1, -1}, 0, 1234500},
+    {ADVANCE, "0", S1, 4, 0, 1, {0}, 0, 0},
+    {ADVANCE, "above 65536", S1, 4, 0, 1, {65537}, 0, 6553700},
+    {ADVANCE, "below -1", S1, 4, 0, 1, {-2}, 0, -200},
+    {ADVANCE, "-1", S1, 4, 0, 1, {-1}, 2, 0},
+    {ADVANCE, "the largest number", S2, 4, 0, 1, {INT32_MAX}, 0, 2147483645},
+    {ADVANCE, "the least number", S2, 4, 0, 1, {INT32_MIN}, 0, INT32_MIN},
+    {ADVANCE, "S4, a sum that wraps", S4, 4, 0, 2, {65536, 65536}, 0, -131072},
+    {ADVANCE, "S4, products that wrap", S4, 4, 0, 2, {INT32_MAX, INT32_MAX}, 0, -65534},
+    {ADVANCE, "HVAR", BOTH, 4, 0, 2, {1, 1000}, 0, 20100},
+    {ADVANCE, "HVAR, exchanged", BOTH, 4, 0, 2, {1000, 1}, 0, 100020},
+    {ADVANCE, "HVAR, glyph 256", BOTH, 4, 256, 2, {1, 1000}, 0, 12040},
+    {ADVANCE, "VVAR", BOTH, 90, 0, 2, {1, 1000}, 0, 8060},
+    {ADVANCE, "VVAR, glyph 256", BOTH, 90, 256, 2, {1, 1000}, 0, 16024},
+    {ADVANCE, "the first one is -1", BOTH, 4, 0, 2, {-1, 1000}, 2, 0},
+    {ADVANCE, "the second one is -1", BOTH, 4, 0, 2, {1, -1}, 2, 0},
+    {ADVANCE, "-1 that is not named", SECOND, 4, 0, 2, {-1, 10}, 0, 1000},
+    {ADVANCE, "-1 that is named", SECOND, 4, 0, 2, {10, -1}, 2, 0},
+    {ADVANCE, "-1, and no region is named", NONE, 4, 0, 1, {-1}, 0, 0},
+    {ADVANCE, "no list, and no region is named", NONE, 4, 0, 0, {0}, 7, 0},
+    {ADVANCE, "no list, no regions", S5, 4, 0, 0, {0}, 0, 0},
+    {ADVANCE, "no list", S1, 4, 0, 0, {12345}, 7, 0},
+    {ADVANCE, "a list that is too short", BOTH, 4, 0, 1, {1, 1000}, 7, 0},
+    {ADVANCE, "a list that is too short for what no row names", WRONG, 4, 0, 1, {1}, 7, 0},
+    {ADVANCE, "a region past the count", MAPS MAP H1_ROWS("0000", "0001"), 4, 0, 1, {5}, 3, 0},
+    {ADVANCE, "a region past the count, in the list", MAPS MAP H1_ROWS("0000", "0001"), 4, 0, 3, {5, 5, 5}, 3, 0},
+    {ADVANCE, "a region past the count, no list", MAPS MAP H1_ROWS("0000", "0001"), 4, 0, 0, {0}, 7, 0},
+    {ADVANCE, "a wrong region behind -1", WRONG, 4, 0, 3, {-1, 1, 1}, 2, 0},
+    {ADVANCE, "a wrong region behind 1", WRONG, 4, 0, 3, {1, 1, 1}, 3, 0},
+    {ADVANCE, "without the entry", PLAIN STORE("000040004000", ""), 4, 0, 1, {1}, 2, 0},
+    {ADVANCE, "without the entry, 0", PLAIN STORE("000040004000", ""), 4, 0, 1, {0}, 2, 0},
+    {ADVANCE, "without the entry, no list", PLAIN STORE("000040004000", ""), 4, 0, 0, {1}, 7, 0},
+    {ADVANCE, "without the region index", UNNAMED, 4, 0, 1, {1}, 2, 0},
+    {ADVANCE, "without the region index, no list", UNNAMED, 4, 0, 0, {1}, 7, 0},
+    {ADVANCE, "without the count of regions, no list", UNCOUNTED, 4, 0, 0, {1}, 2, 0},
+    {ADVANCE, "a row at the count, no list", ONE_ROW("0000"), 4, 1, 0, {0}, 3, 0},
+    {ADVANCE, "a row at the count, more words than regions, no list", ONE_ROW("0002"), 4, 1, 0, {0}, 5, 0},
+    {ADVANCE, "no subtable, no list", PLAIN "0001 0000000c 0000 00000016 0001 0001", 4, 0, 0, {0}, 3, 0},
+    {ADVANCE, "a map without entries, no list", MAPS "0007 0000" H1_ROWS("0000", "0000"), 4, 0, 0, {0}, 5, 0},
+    {ADVANCE, "a store at 2^32, no list", HVAR("fffffffc", "00000000", "00000000"), 4, 0, 0, {0}, 5, 0},
+    {ADVANCE, "no HVAR, no list", S1, 0, 0, 0, {0}, 1, 0},
+    {ADVANCE, "no store, no list", HVAR("00000000", "00000000", "00000000"), 4, 0, 0, {0}, 1, 0},
+    {ADVANCE, "no HVAR", S1, 0, 0, 1, {1}, 1, 0},
+    {ADVANCE, "an offset past 65536", S1, 65540, 0, 1, {1}, 2, 0},
+    {ADVANCE, "an offset far past the end", S1, 0xffffffff, 0, 1, {1}, 2, 0},
+    {BEARING, "H1", H1, 4, 1, 1, {100}, 0, 1100},
+    {BEARING, "HVAR", BOTH, 4, 0, 2, {1, 1000}, 0, -7990},
+    {BEARING, "HVAR, glyph 256", BOTH, 4, 256, 2, {1, 1000}, 0, 49970},
+    {BEARING, "VVAR", BOTH, 90, 0, 2, {1, 1000}, 0, 4020},
+    {BEARING, "VVAR, glyph 256", BOTH, 90, 256, 2, {1, 1000}, 0, 2006},
+    {BEARING, "a longer list", BOTH, 4, 0, 3, {1, 1000, -1}, 0, -7990},
+    {BEARING, "below -1", H1, 4, 2, 1, {-3}, 0, -36},
+    {BEARING, "the largest number", H1, 4, 1, 1, {INT32_MAX}, 0, 2147483637},
+    {BEARING, "-1", BOTH, 4, 0, 2, {1, -1}, 2, 0},
+    {BEARING, "a list that is too short", BOTH, 4, 0, 1, {1, 1000}, 7, 0},
+    {BEARING, "a region past the count, in the list", MAPS MAP H1_ROWS("0000", "0001"), 4, 0, 3, {5, 5, 5}, 3, 0},
+    {BEARING, "a region past the count, no list", MAPS MAP H1_ROWS("0000", "0001"), 4, 0, 0, {0}, 7, 0},
+    {BEARING, "a row at the count, no list", MAPS MAP H1_COUNTED("0002", "0000", "0000"), 4, 2, 0, {0}, 3, 0},
+    {BEARING, "more words than regions, no list", MAPS MAP H1_ROWS("0002", "0000"), 4, 0, 0, {0}, 5, 0},
+    {BEARING, "no map: S1", S1, 4, 0, 1, {1}, 1, 0},
+    {BEARING, "no HVAR, no list", H1, 0, 0, 0, {0}, 1, 0},
+    {BEARING, "a font that ends in the HVAR, no list", "00000000 00010000 00000018 00000010 000000", 4, 0, 0, {0}, 2, 0},
+    {MEASURE, "hasc", MEASURES, 4, HASC, 2, {1, 1000}, 0, 2100},
+    {MEASURE, "hdsc", MEASURES, 4, TAG('h', 'd', 's', 'c'), 2, {1, 1000}, 0, 2940},
+    {MEASURE, "xhgt, a longer list", MEASURES, 4, XHGT, 3, {1, 1000, -1}, 0, 14030},
+    {MEASURE, "below -1", MEASURES, 4, HASC, 2, {-2, INT32_MIN}, 0, -200},
+    {MEASURE, "an MVAR at 0", AT_0, 0, HASC, 1, {12345}, 0, 1234500},
+    {MEASURE, "-1", MEASURES, 4, HASC, 2, {-1, 1000}, 2, 0},
+    {MEASURE, "a list that is too short", MEASURES, 4, HASC, 1, {1, 1000}, 7, 0},
+    {MEASURE, "another tag, no list", MEASURES, 4, TAG('s', 't', 'r', 's'), 0, {0}, 4, 0},
+    {MEASURE, "a subtable past the count, no list", ONE_RECORD("0000 0001"), 4, HASC, 0, {0}, 3, 0},
+    {MEASURE, "a row at the count, no list", MVAR_HEADER("000b", "0064") RECORDS ROWS_COUNTED("0001", "0001"), 4, HASC, 0, {0}, 3, 0},
+    {MEASURE, "more words than regions, no list", MVAR_HEADER("000b", "0064") RECORDS ROWS("0003"), 4, HASC, 0, {0}, 5, 0},
+    {MEASURE, "no records, no list", MVAR_HEADER("0000", "0064") RECORDS ROWS("0001"), 4, HASC, 0, {0}, 1, 0},
+    {MEASURE, "no store, no list", MVAR_HEADER("000b", "0000") RECORDS ROWS("0001"), 4, HASC, 0, {0}, 1, 0},
+    {MEASURE, "an offset past the end", MEASURES, 255, HASC, 2, {1, 1000}, 2, 0},
+    {MEASURE, "an offset past 65536", MEASURES, 65540, HASC, 2, {1, 1000}, 2, 0},
+};
+
+/* Both forms of a delta that is read with a list. */
+static void try_with(enum kind kind, const char *name, const struct bytes *font, uint32_t offset, uint32_t id,
+                     const int32_t *scalars, size_t len, uint8_t number, int32_t expected)
+{
+    static const char *const names[][2] = {{"advance_delta_fixed_with", "advance_delta_with"},
+                                           {"sb_delta_fixed_with", "sb_delta_with"},
+                                           {"mvar_delta_fixed_with", "mvar_delta_with"}};
+    uint16_t glyph = (uint16_t)id;
+    int32_t value = 12345;
+    float real = 123.5f;
+    uint8_t found = 99, found_real = 99;
+    switch (kind) {
+    case ADVANCE:
+        found = suolluvik_advance_delta_fixed_with(font->at, font->len, offset, glyph, scalars, len, &value);
+        found_real = suolluvik_advance_delta_with(font->at, font->len, offset, glyph, scalars, len, &real);
+        break;
+    case BEARING:
+        found = suolluvik_sb_delta_fixed_with(font->at, font->len, offset, glyph, scalars, len, &value);
+        found_real = suolluvik_sb_delta_with(font->at, font->len, offset, glyph, scalars, len, &real);
+        break;
+    case MEASURE:
+        found = suolluvik_mvar_delta_fixed_with(font->at, font->len, offset, id, scalars, len, &value);
+        found_real = suolluvik_mvar_delta_with(font->at, font->len, offset, id, scalars, len, &real);
+        break;
+    }
+    check(found == number && value == expected, names[kind][0], name);
+    check(found_real == number && real == (float)expected / 65536.0f && !(expected == 0 && signbit(real)), names[kind][1], name);
+}
+
+static void try_readings(void)
+{
+    size_t i;
+    for (i = 0; i < sizeof readings / sizeof *readings; i++) {
+        const struct reading *r = &readings[i];
+        struct bytes font = bytes(r->font);
+        try_with(r->kind, r->name, &font, r->offset, r->id, r->scalars, r->len, r->number, r->value);
+    }
+}
+
+/* Fills a list as a caller does; answers how many numbers it has, 0 where it is refused. */
+static uint16_t filled(const struct bytes *font, enum kind kind, uint32_t offset, const int16_t *coords, size_t coords_len,
+                       int32_t *scalars, size_t room)
+{
+    uint32_t store;
+    uint16_t count;
+    if (kind == MEASURE) {
+        if (suolluvik_mvar_store_offset(font->at, font->len, offset, &store) != SUOLLUVIK_OK)
+            return 0;
+        suolluvik_fill_scalars(font->at + offset, font->len - offset, store, coords, coords_len, scalars, room, &count);
+    } else {
+        if (suolluvik_store_offset(font->at, font->len, offset, &store) != SUOLLUVIK_OK)
+            return 0;
+        suolluvik_fill_scalars(font->at, font->len, store, coords, coords_len, scalars, room, &count);
+    }
+    return count;
+}
+
+/* Each delta of above, with a filled list in the place of its coordinates, and with one that is longer. Where there is no list, it
+ * is refused before the list counts. */
+static void try_filled(void)
+{
+    size_t i;
+    for (i = 0; i < sizeof deltas / sizeof *deltas; i++) {
+        const struct delta *d = &deltas[i];
+        struct bytes font = bytes(d->font);
+        int32_t list[8] = {-1, -1, -1, -1, -1, -1, -1, -1};
+        uint16_t count = filled(&font, d->kind, d->offset, d->coords, d->coords_len, list, 8);
+        try_with(d->kind, d->name, &font, d->offset, d->id, list, count, d->number, d->value);
+        try_with(d->kind, d->name, &font, d->offset, d->id, list, 8, d->number, d->value);
+    }
+}
+
+/* All glyphs. */
+static void try_all_glyphs(void)
+{
+    static const struct {
+        const char *font;
+        uint32_t xvar;
+    } tables[] = {{BOTH, 4}, {BOTH, 90}, {CUT, 4}};
+    static const int16_t places[][2] = {{8192, -4096}, {16384, 0}, {-1, -16384}, {0, 5}, {-8192, -1}};
+    size_t table, place;
+    uint32_t glyph;
+    for (table = 0; table < 3; table++) {
+        for (place = 0; place < 5; place++) {
+            struct bytes font = bytes(tables[table].font);
+            const int16_t *coords = places[place];
+            uint32_t xvar = tables[table].xvar;
+            int32_t list[2] = {K, K};
+            uint16_t count = filled(&font, ADVANCE, xvar, coords, 2, list, 2);
+            int same[4] = {1, 1, 1, 1};
+            for (glyph = 0; glyph < 65536; glyph++) {
+                uint16_t id = (uint16_t)glyph;
+                int32_t fixed[4] = {1, 2, 3, 4};
+                float real[4] = {1, 2, 3, 4};
+                same[0] &= suolluvik_advance_delta_fixed(font.at, font.len, xvar, id, coords, 2, &fixed[0]) ==
+                           suolluvik_advance_delta_fixed_with(font.at, font.len, xvar, id, list, count, &fixed[1]);
+                same[1] &= suolluvik_advance_delta(font.at, font.len, xvar, id, coords, 2, &real[0]) ==
+                           suolluvik_advance_delta_with(font.at, font.len, xvar, id, list, count, &real[1]);
+                same[2] &= suolluvik_sb_delta_fixed(font.at, font.len, xvar, id, coords, 2, &fixed[2]) ==
+                           suolluvik_sb_delta_fixed_with(font.at, font.len, xvar, id, list, count, &fixed[3]);
+                same[3] &= suolluvik_sb_delta(font.at, font.len, xvar, id, coords, 2, &real[2]) ==
+                           suolluvik_sb_delta_with(font.at, font.len, xvar, id, list, count, &real[3]);
+                same[0] &= fixed[0] == fixed[1];
+                same[1] &= real[0] == real[1];
+                same[2] &= fixed[2] == fixed[3];
+                same[3] &= real[2] == real[3];
+            }
+            check(count == 2, "fill_scalars", "all glyphs");
+            check(same[0], "advance_delta_fixed_with", "all glyphs");
+            check(same[1], "advance_delta_with", "all glyphs");
+            check(same[2], "sb_delta_fixed_with", "all glyphs");
+            check(same[3], "sb_delta_with", "all glyphs");
+        }
     }
 }
 
@@ -860,6 +1228,48 @@ static void try_null_deltas(void)
     check(suolluvik_mvar_delta(mvar.at, mvar.len, 4, HASC, NULL, 0, &real) == 0 && real == 0, "mvar_delta", "NULL");
 }
 
+static void try_null_lists(void)
+{
+    struct bytes s1 = bytes(S1), s5 = bytes(S5), h1 = bytes(H1), mvar = bytes(MEASURES);
+    int16_t coord = 8192;
+    int32_t scalars[] = {K, K}, value = 77;
+    uint32_t store = 77;
+    uint16_t count = 77;
+    float real = 77;
+
+    check(suolluvik_store_offset(NULL, 0, 4, &store) == 2 && store == 0, "store_offset", "NULL");
+    store = 77;
+    check(suolluvik_mvar_store_offset(NULL, 0, 0, &store) == 2 && store == 0, "mvar_store_offset", "NULL");
+
+    check(suolluvik_fill_scalars(NULL, 0, 20, &coord, 1, scalars, 2, &count) == 2 && count == 0 && scalars[0] == K, "fill_scalars", "NULL for the font");
+    check(suolluvik_fill_scalars(s1.at, s1.len, 20, NULL, 0, scalars, 2, &count) == 0 && count == 1 && scalars[0] == 0 && scalars[1] == K, "fill_scalars", "NULL for the coordinates");
+    check(suolluvik_fill_scalars(s1.at, s1.len, 20, &coord, 1, NULL, 0, &count) == 7 && count == 0, "fill_scalars", "NULL for the list");
+    count = 77;
+    check(suolluvik_fill_scalars(s5.at, s5.len, 20, &coord, 1, NULL, 0, &count) == 0 && count == 0, "fill_scalars", "NULL for the list, no regions");
+
+    scalars[0] = scalars[1] = 1;
+    check(suolluvik_advance_delta_fixed_with(NULL, 0, 4, 0, scalars, 2, &value) == 2 && value == 0, "advance_delta_fixed_with", "NULL for the font");
+    check(suolluvik_advance_delta_with(NULL, 0, 4, 0, scalars, 2, &real) == 2 && real == 0, "advance_delta_with", "NULL for the font");
+    value = 77, real = 77;
+    check(suolluvik_advance_delta_fixed_with(s1.at, s1.len, 4, 0, NULL, 0, &value) == 7 && value == 0, "advance_delta_fixed_with", "NULL for the list");
+    check(suolluvik_advance_delta_with(s1.at, s1.len, 4, 0, NULL, 0, &real) == 7 && real == 0, "advance_delta_with", "NULL for the list");
+    value = 77, real = 77;
+    check(suolluvik_advance_delta_fixed_with(s5.at, s5.len, 4, 0, NULL, 0, &value) == 0 && value == 0, "advance_delta_fixed_with", "NULL for the list, no regions");
+    check(suolluvik_advance_delta_with(s5.at, s5.len, 4, 0, NULL, 0, &real) == 0 && real == 0, "advance_delta_with", "NULL for the list, no regions");
+    value = 77, real = 77;
+    check(suolluvik_sb_delta_fixed_with(NULL, 0, 4, 0, scalars, 2, &value) == 2 && value == 0, "sb_delta_fixed_with", "NULL for the font");
+    check(suolluvik_sb_delta_with(NULL, 0, 4, 0, scalars, 2, &real) == 2 && real == 0, "sb_delta_with", "NULL for the font");
+    value = 77, real = 77;
+    check(suolluvik_sb_delta_fixed_with(h1.at, h1.len, 4, 0, NULL, 0, &value) == 7 && value == 0, "sb_delta_fixed_with", "NULL for the list");
+    check(suolluvik_sb_delta_with(h1.at, h1.len, 4, 0, NULL, 0, &real) == 7 && real == 0, "sb_delta_with", "NULL for the list");
+    value = 77, real = 77;
+    check(suolluvik_mvar_delta_fixed_with(NULL, 0, 4, HASC, scalars, 2, &value) == 2 && value == 0, "mvar_delta_fixed_with", "NULL for the font");
+    check(suolluvik_mvar_delta_with(NULL, 0, 4, HASC, scalars, 2, &real) == 2 && real == 0, "mvar_delta_with", "NULL for the font");
+    value = 77, real = 77;
+    check(suolluvik_mvar_delta_fixed_with(mvar.at, mvar.len, 4, HASC, NULL, 0, &value) == 7 && value == 0, "mvar_delta_fixed_with", "NULL for the list");
+    check(suolluvik_mvar_delta_with(mvar.at, mvar.len, 4, HASC, NULL, 0, &real) == 7 && real == 0, "mvar_delta_with", "NULL for the list");
+}
+
 static void try_null_axes(void)
 {
     struct bytes two = bytes(TWO), avar = bytes(AVAR);
@@ -952,6 +1362,11 @@ static void try_names(void)
 int main(void)
 {
     try_deltas();
+    try_stores();
+    try_fillings();
+    try_readings();
+    try_filled();
+    try_all_glyphs();
     try_counts();
     try_axes();
     try_instances();
@@ -963,6 +1378,7 @@ int main(void)
     try_vorgs();
     try_adjusted();
     try_null_deltas();
+    try_null_lists();
     try_null_axes();
     try_null_metrics();
     try_null_numbers();

@@ -7,7 +7,9 @@ mod suolluvik;
 
 use std::fmt::Debug;
 use std::process::ExitCode;
-use suolluvik::{Axis, GlyphMetrics, Instance, Metrics, Refusal, Refusal::*, Vertical};
+use suolluvik::{
+    Axis, GlyphMetrics, Instance, Metrics, MvarScalars, Refusal, Refusal::*, Scalars, Vertical,
+};
 
 #[derive(Default)]
 struct Test {
@@ -70,6 +72,12 @@ const BOTH: &str = "00000000 00010000 00000010 0000004a 00000050 0001 0000000c 0
     0002 0002 000040004000 000000000000 000000000000 c000c0000000 0004 0000 0002 0000 0001 \
     3c08 1810 1404 0602 0007 0002 0001 0007 0002 0203";
 const PLACE: &[i16] = &[8192, -4096];
+// Two regions behind two subtables and a map: glyph 0 has the first one, the others have the second, which goes down to -1 on the
+// first axis; of its second axis the triple is cut.
+const CUT: &str =
+    "00000000 00010000 00000010 00000032 00000032 0001 00000028 0002 00000010 00000019 \
+    0001 0000 0001 0000 64 0001 0000 0001 0001 0a 0000 0002 0002 \
+    0002 0002 000040004000 000000000000 c000c0000000 0000";
 // An MVAR at 4 with the eleven measures, sorted; inner comes before outer. Its rows have a word for the first axis, and a byte
 // for the second, where a missing coordinate is 0.
 const MVAR: &str = "00000000 0001 0000 0000 0008 000b 0064 \
@@ -78,7 +86,7 @@ const MVAR: &str = "00000000 0001 0000 0000 0008 000b 0064 \
     0001 0000000c 0001 00000028 0002 0002 000040004000 000000000000 000000000000 c000c0000000 \
     000b 0001 0002 0000 0001 002801 006402 ffc403 000a05 000c06 fff807 000609 00c80a ff9c0b 000e0d 001e0e";
 
-/// Both forms of a delta of a glyph's advance.
+/// Both forms of a delta of a glyph's advance, and both once more with a filled list.
 fn advance(
     t: &mut Test,
     name: &str,
@@ -99,6 +107,15 @@ fn advance(
         suolluvik::advance_delta(font, xvar, glyph, coords),
         expected.map(real),
     );
+    let mut list = [-1; 8];
+    let name = format!("{name}, with a list");
+    match Scalars::fill(font, xvar, coords, &mut list) {
+        Ok(scalars) => {
+            t.same(&name, scalars.advance_delta_fixed(glyph), expected);
+            t.same(&name, scalars.advance_delta(glyph), expected.map(real));
+        }
+        Err(refusal) => t.same(&name, Err(refusal), expected),
+    }
 }
 
 fn bearing(
@@ -121,6 +138,15 @@ fn bearing(
         suolluvik::sb_delta(font, xvar, glyph, coords),
         expected.map(real),
     );
+    let mut list = [-1; 8];
+    let name = format!("{name}, with a list");
+    match Scalars::fill(font, xvar, coords, &mut list) {
+        Ok(scalars) => {
+            t.same(&name, scalars.sb_delta_fixed(glyph), expected);
+            t.same(&name, scalars.sb_delta(glyph), expected.map(real));
+        }
+        Err(refusal) => t.same(&name, Err(refusal), expected),
+    }
 }
 
 fn of_measure(
@@ -143,6 +169,15 @@ fn of_measure(
         suolluvik::mvar_delta(font, mvar, tag, coords),
         expected.map(real),
     );
+    let mut list = [-1; 8];
+    let name = format!("{name}, with a list");
+    match MvarScalars::fill(font, mvar, coords, &mut list) {
+        Ok(scalars) => {
+            t.same(&name, scalars.delta_fixed(tag), expected);
+            t.same(&name, scalars.delta(tag), expected.map(real));
+        }
+        Err(refusal) => t.same(&name, Err(refusal), expected),
+    }
 }
 
 /// Each number that is asked for here is a float.
@@ -258,6 +293,21 @@ fn deltas(t: &mut Test) {
         advance(t, name, both, xvar, glyph, PLACE, Ok(wide));
         bearing(t, name, both, xvar, glyph, PLACE, Ok(side));
     }
+    let cut = &bytes(CUT)[..];
+    for (name, glyph, coords, expected) in [
+        (
+            "a cut region that is not named",
+            0,
+            &[8192][..],
+            Ok(3276800),
+        ),
+        ("a cut region", 1, &[-8192], Err(Short)),
+        ("a cut region, a scalar of 0 before", 1, &[], Err(Short)),
+        ("a cut region, left outside before", 256, &[1], Ok(0)),
+    ] {
+        advance(t, name, cut, 4, glyph, coords, expected);
+        bearing(t, name, cut, 4, glyph, coords, expected);
+    }
     bearing(t, "no HVAR", h1, 0, 0, &[], Err(Absent));
     bearing(t, "no map", s1, 4, 0, &[], Err(Absent));
     bearing(
@@ -364,6 +414,195 @@ fn deltas(t: &mut Test) {
         &[],
         Err(Arithmetic),
     );
+}
+
+fn stores(t: &mut Test) {
+    let (s1, both, mvar) = (&bytes(S1)[..], &bytes(BOTH)[..], &bytes(MVAR)[..]);
+    for (name, font, xvar, expected) in [
+        ("S1", s1, 4, Ok(20)),
+        ("HVAR", both, 4, Ok(20)),
+        ("VVAR", both, 90, Ok(106)),
+        ("the last one", &changed(S1, 8, "fffffffb"), 4, Ok(u32::MAX)),
+        ("2^32", &changed(S1, 8, "fffffffc"), 4, Err(Arithmetic)),
+        ("no HVAR", s1, 0, Err(Absent)),
+        ("no HVAR, no font", &[], 0, Err(Absent)),
+        ("no store", &changed(S1, 8, "00000000"), 4, Err(Absent)),
+        ("at the font's end", &s1[..12], 4, Ok(20)),
+        ("cut", &s1[..11], 4, Err(Short)),
+        ("past 65536", s1, 65540, Err(Short)),
+        ("far past the end", s1, u32::MAX, Err(Short)),
+    ] {
+        let found = suolluvik::store_offset(font, xvar);
+        t.same(&format!("store_offset: {name}"), found, expected);
+    }
+    for (name, font, start, expected) in [
+        ("the measures", mvar, 4, Ok(100)),
+        ("an MVAR at 0", &mvar[4..], 0, Ok(100)),
+        ("the last one", &changed(MVAR, 14, "ffff"), 4, Ok(65535)),
+        ("no records", &changed(MVAR, 12, "0000"), 4, Err(Absent)),
+        ("no store", &changed(MVAR, 14, "0000"), 4, Err(Absent)),
+        ("at the font's end", &mvar[..16], 4, Ok(100)),
+        ("cut", &mvar[..15], 4, Err(Short)),
+        (
+            "no records, cut",
+            &changed(MVAR, 12, "0000")[..15],
+            4,
+            Err(Short),
+        ),
+        ("no font", &[], 0, Err(Short)),
+        ("past 65536", mvar, 65540, Err(Short)),
+        ("far past the end", mvar, u32::MAX, Err(Short)),
+    ] {
+        let found = suolluvik::mvar_store_offset(font, start);
+        t.same(&format!("mvar_store_offset: {name}"), found, expected);
+    }
+}
+
+fn lists(t: &mut Test) {
+    let (s1, both, mvar) = (&bytes(S1)[..], &bytes(BOTH)[..], &bytes(MVAR)[..]);
+    let cut = &bytes(CUT)[..];
+    // the scalars, and the whole list: what is not filled stays
+    type Case<'a> = (
+        &'a str,
+        &'a [u8],
+        u32,
+        &'a [i16],
+        Result<&'a [i32], Refusal>,
+    );
+    let fill = |t: &mut Test, (name, font, xvar, coords, expected): Case, places: usize| {
+        let mut list = vec![-77; places];
+        let found = Scalars::fill(font, xvar, coords, &mut list).map(|s| s.as_slice().to_vec());
+        let name = format!("Scalars, {places} places: {name}");
+        t.same(&name, found, expected.map(<[i32]>::to_vec));
+        let mut kept = vec![-77; places];
+        if let Ok(scalars) = expected {
+            kept[..scalars.len()].copy_from_slice(scalars);
+        }
+        t.same(&format!("{name}, the list"), list, kept);
+    };
+    for case in [
+        ("S1", s1, 4, &[8192][..], Ok(&[32768][..])),
+        ("S1, no coordinates", s1, 4, &[], Ok(&[0])),
+        ("S5, no regions", &bytes(S5), 4, &[], Ok(&[])),
+        ("HVAR", both, 4, PLACE, Ok(&[32768, 16384])),
+        ("VVAR", both, 90, &[4096, -16384], Ok(&[16384, 65536])),
+        ("one coordinate", both, 4, &[8192], Ok(&[32768, 0])),
+        ("a cut region", cut, 4, &[-8192], Ok(&[0, -1])),
+        ("left outside", cut, 4, &[8192], Ok(&[32768, 0])),
+        ("no HVAR", s1, 0, &[8192], Err(Absent)),
+        (
+            "no store",
+            &changed(S1, 8, "00000000"),
+            4,
+            &[8192],
+            Err(Absent),
+        ),
+        (
+            "a store at 2^32",
+            &changed(S1, 8, "fffffffc"),
+            4,
+            &[8192],
+            Err(Arithmetic),
+        ),
+        ("no font", &[], 4, &[8192], Err(Short)),
+        ("at the font's end", &s1[..42], 4, &[8192], Ok(&[32768])),
+        ("cut", &s1[..35], 4, &[8192], Err(Short)),
+        (
+            "no subtables",
+            &changed(S1, 26, "0000"),
+            4,
+            &[8192],
+            Ok(&[32768]),
+        ),
+    ] {
+        fill(t, case, 5);
+        // a list that has just room, and one that has not
+        if let Ok(scalars) = case.4 {
+            fill(t, case, scalars.len());
+            if !scalars.is_empty() {
+                let (name, font, xvar, coords, _) = case;
+                let short = (name, font, xvar, coords, Err(Room));
+                fill(t, short, scalars.len() - 1);
+            }
+        }
+    }
+
+    for (name, font, start, places, expected) in [
+        ("at 4", mvar, 4, 3, Ok(&[32768, 16384][..])),
+        ("at 0", &mvar[4..], 0, 2, Ok(&[32768, 16384])),
+        ("too short", mvar, 4, 1, Err(Room)),
+        ("no records", &changed(MVAR, 12, "0000"), 4, 3, Err(Absent)),
+        ("cut in the header", &mvar[..15], 4, 3, Err(Short)),
+        ("cut in the counts", &mvar[..119], 4, 3, Err(Short)),
+        ("cut in a region", &mvar[..143], 4, 3, Ok(&[32768, -1])),
+        ("far past the end", mvar, u32::MAX, 3, Err(Short)),
+    ] {
+        let mut list = vec![-77; places];
+        let found = MvarScalars::fill(font, start, PLACE, &mut list);
+        let found = found.map(|scalars| scalars.as_slice().to_vec());
+        let name = format!("MvarScalars: {name}");
+        t.same(&name, found, expected.map(<[i32]>::to_vec));
+        let mut kept = vec![-77; places];
+        if let Ok(scalars) = expected {
+            kept[..scalars.len()].copy_from_slice(scalars);
+        }
+        t.same(&format!("{name}, the list"), list, kept);
+    }
+
+    // 65535 regions, and no axes
+    let all = &changed(S1, 32, "0000 ffff")[..];
+    let mut list = vec![-77; 65536];
+    let found = Scalars::fill(all, 4, &[], &mut list[..65534]).map(|_| ());
+    t.same("Scalars: 65534 places", found, Err(Room));
+    let found = Scalars::fill(all, 4, &[], &mut list[..65535]);
+    let found = found.map(|scalars| scalars.as_slice() == vec![65536; 65535]);
+    t.same("Scalars: 65535 places", found, Ok(true));
+    t.same("Scalars: the place behind", list[65535], -77);
+}
+
+/// Several filled lists at once, each with all glyphs, and with all tags.
+fn lines(t: &mut Test) {
+    let (both, cut, mvar) = (&bytes(BOTH)[..], &bytes(CUT)[..], &bytes(MVAR)[..]);
+    for coords in [PLACE, &[16384], &[-1, -16384], &[], &[-8192, -1]] {
+        let mut lists = [[-1; 4]; 4];
+        let [one, two, three, four] = &mut lists;
+        let of_mvar = MvarScalars::fill(mvar, 4, coords, four).unwrap();
+        for (font, xvar, scalars) in [
+            (both, 4, Scalars::fill(both, 4, coords, one).unwrap()),
+            (both, 90, Scalars::fill(both, 90, coords, two).unwrap()),
+            (cut, 4, Scalars::fill(cut, 4, coords, three).unwrap()),
+        ] {
+            let same = |glyph: &u16| {
+                let glyph = *glyph;
+                let fixed = suolluvik::advance_delta_fixed(font, xvar, glyph, coords);
+                let bearing = suolluvik::sb_delta_fixed(font, xvar, glyph, coords);
+                scalars.advance_delta_fixed(glyph) == fixed
+                    && scalars.advance_delta(glyph) == fixed.map(real)
+                    && scalars.sb_delta_fixed(glyph) == bearing
+                    && scalars.sb_delta(glyph) == bearing.map(real)
+            };
+            let name = format!("Scalars at {xvar}, {coords:?}: the glyphs that are the same");
+            t.same(&name, (0..=u16::MAX).filter(same).count(), 65536);
+        }
+        for letters in [b"cpht", b"hasc", b"hdsc", b"vlgp", b"xhgt", b"strs"] {
+            let fixed = suolluvik::mvar_delta_fixed(mvar, 4, tag(letters), coords);
+            let name = format!("MvarScalars, {coords:?}: {letters:?}");
+            t.same(&name, of_mvar.delta_fixed(tag(letters)), fixed);
+            t.same(&name, of_mvar.delta(tag(letters)), fixed.map(real));
+        }
+    }
+    let mut lists = [[-77; 3]; 2];
+    let [one, two] = &mut lists;
+    let scalars = Scalars::fill(both, 4, PLACE, one).unwrap();
+    let of_mvar = MvarScalars::fill(mvar, 4, PLACE, two).unwrap();
+    let copies = (scalars, of_mvar);
+    t.same(
+        "Debug",
+        format!("{:?}, {:?}", copies.0, copies.1),
+        "[32768, 16384], [32768, 16384]".to_string(),
+    );
+    let found = (scalars.advance_delta(0), of_mvar.delta(tag(b"hasc")));
+    t.same("both copied", found, (Ok(55.), Ok(50.5)));
 }
 
 // Document 01's listing; two axes and an instance; a third axis, all below 0; instances with a PostScript name id; the axes of N2 and N3; A1's map at 4.
@@ -1297,6 +1536,9 @@ fn main() -> ExitCode {
     let mut t = Test::default();
     growth(&mut t);
     deltas(&mut t);
+    stores(&mut t);
+    lists(&mut t);
+    lines(&mut t);
     axes(&mut t);
     coords(&mut t);
     measures(&mut t);

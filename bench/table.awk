@@ -1,11 +1,14 @@
-# Tables from the lines of bench/run: WORK AXES OURS ON OFF CALLS FONT, the three as totals over CALLS; of several lines for a work
-# and a font the least. A row for each font, the mean over the places of its coordinates; with places=yes also one for each of
+# Tables from the lines of bench/run: WORK AXES OURS ON OFF CALLS FONT, the three as totals over CALLS, - where swash has no such work; of
+# several lines for a work and a font the least. A row for each font, the mean over the places of its coordinates; with places=yes also one for each of
 # these. To the file ratios goes a row for each work, and one for each number of axes.
 
 function title(kind) {
     if (kind == "advance") return "an advance delta"
     if (kind == "raw") return "an advance delta as a 16.16 number"
     if (kind == "line") return "the advance deltas of a line of forty glyphs"
+    if (kind == "list") return "an advance delta, with a list that is filled"
+    if (kind == "filling") return "a list filled"
+    if (kind == "kept") return "the advance deltas of a line of forty glyphs, with a list that is filled for it"
     if (kind == "settings") return "normalising: the coordinates of settings, one for each axis"
     if (kind == "instances") return "normalising: the coordinates of an instance"
     return "an MVAR tag"
@@ -13,6 +16,10 @@ function title(kind) {
 
 function row(font, axes, place, ours, on, off) {
     sub(/.*\//, "", font)
+    if (!on) {
+        printf "| %s | %d | %s | %.1f | - | - | - | - |\n", font, axes, place, ours
+        return
+    }
     printf "| %s | %d | %s | %.1f | %.1f | %.1f | %.3f | %.3f |\n", font, axes, place, ours, on, off, ours / on, ours / off
 }
 
@@ -29,7 +36,7 @@ function least(old, new) {
     if (!(($1, font) in known)) known[$1, font] = ++rows[kind]
     n = known[$1, font]
     # picoseconds to nanoseconds
-    unit = $6 * (measure == "time" ? 1000 : 1) / (kind == "line" ? 40 : 1)
+    unit = $6 * (measure == "time" ? 1000 : 1) / (kind == "line" || kind == "kept" ? 40 : 1)
     at[kind, n] = part[2] == "" ? "-" : part[2]
     axes[kind, n] = $2
     ours[kind, n] = least(ours[kind, n], $3 / unit)
@@ -58,7 +65,7 @@ END {
             if (i < rows[kind] && fonts[kind, i + 1] == font) continue
             if (places != "yes" || j > 1) row(font, axes[kind, i], j > 1 ? "all" : at[kind, i], a / j, b / j, c / j)
             # group 0 has all fonts, group n those with n axes
-            for (group = 0; group <= axes[kind, i]; group += axes[kind, i]) {
+            for (group = 0; b && group <= axes[kind, i]; group += axes[kind, i]) {
                 mean_on[group] += a / b
                 mean_off[group] += a / c
                 if (a / b > most[group]) most[group] = a / b

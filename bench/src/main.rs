@@ -3,7 +3,7 @@
 //!     bench check               whether swash's checks are on in the one build and off in the other
 //!     bench works FONT          the works that FONT can be put to, a line each
 //!     bench run FONT WORK N     does WORK N times on each of the three sides; prints the calls of a side
-//!     bench time FONT WORK N    the same, with the least time of a call on each side, in picoseconds
+//!     bench time FONT WORK N    the same, with the least time of a call on each side, in picoseconds; - where it has none
 //!     bench side FONT WORK N S  does WORK N times on the side S alone: 0 ours, 1 swash with checks, 2 without, 3 nothing
 //!
 //! Wherever a work is done, the three must answer alike, to the bit; else the status is 1.
@@ -19,6 +19,7 @@ use font::Font;
 use std::hint::black_box;
 use std::process::ExitCode;
 use std::time::Instant;
+use suolluvik::Scalars;
 
 /// One side's functions. They are called through these pointers, so that none is merged into the loop.
 struct Side {
@@ -27,6 +28,14 @@ struct Side {
     mvar: fn(&[u8], u32, u32, &[i16]) -> f32,
     settings: fn(&[u8], &[u32], &[f32], &mut [i16]) -> usize,
     instance: fn(&[u8], u16, &mut [i16]) -> usize,
+    /// A side without lists asks for an advance delta where one is read with a list.
+    lists: Option<Lists>,
+}
+
+#[derive(Copy, Clone)]
+struct Lists {
+    filling: for<'a> fn(&'a [u8], u32, &[i16], &'a mut [i32]) -> Option<Scalars<'a>>,
+    list: fn(&Scalars, u16) -> f32,
 }
 
 const SIDES: [Side; 3] = [
@@ -36,6 +45,10 @@ const SIDES: [Side; 3] = [
         mvar: ours::mvar,
         settings: ours::settings,
         instance: ours::instance,
+        lists: Some(Lists {
+            filling: ours::filling,
+            list: ours::list,
+        }),
     },
     Side {
         advance: checked::advance,
@@ -43,6 +56,7 @@ const SIDES: [Side; 3] = [
         mvar: checked::mvar,
         settings: checked::settings,
         instance: checked::instance,
+        lists: None,
     },
     Side {
         advance: unchecked::advance,
@@ -50,6 +64,7 @@ const SIDES: [Side; 3] = [
         mvar: unchecked::mvar,
         settings: unchecked::settings,
         instance: unchecked::instance,
+        lists: None,
     },
 ];
 
@@ -60,21 +75,39 @@ const EMPTY: Side = Side {
     mvar: empty::mvar,
     settings: empty::settings,
     instance: empty::instance,
+    lists: None,
 };
 
 /// Forty letters and blanks.
 const LINE: &str = "Hamburgefonts set by the old press: 1739";
 
+/// A list of so many numbers has room for every font.
+const ROOM: usize = 65535;
+
 /// How many settings are tried for each font, from min to max of every axis.
 const STEPS: usize = 33;
 
 /// Every call of a work, in order. The numbers in them are all that differs between two calls.
-enum Calls {
+enum Calls<'a> {
     Advance {
         glyphs: Vec<u16>,
         coords: Vec<i16>,
     },
     Raw {
+        glyphs: Vec<u16>,
+        coords: Vec<i16>,
+    },
+    /// With a list that was filled before.
+    List {
+        glyphs: Vec<u16>,
+        coords: Vec<i16>,
+        scalars: Scalars<'a>,
+    },
+    Filling {
+        coords: Vec<i16>,
+    },
+    /// With a list that is filled for each line.
+    Kept {
         glyphs: Vec<u16>,
         coords: Vec<i16>,
     },
@@ -91,11 +124,16 @@ enum Calls {
     },
 }
 
-impl Calls {
+impl<'a> Calls<'a> {
     /// The calls of a work; None where the font can't be put to it.
-    fn new(font: &Font, work: &str) -> Option<Self> {
+    fn new(font: &'a Font, work: &str) -> Option<Self> {
         let (kind, place) = work.split_once('-').unwrap_or((work, ""));
         let coords = coords(font, place);
+        let line = || LINE.chars().map(|c| font.glyph(c)).collect();
+        let fill = |coords: &[i16]| {
+            let list = vec![0; ROOM].leak();
+            Scalars::fill(&font.data, font.offset(b"HVAR"), coords, list).ok()
+        };
         let calls = match kind {
             "advance" => Calls::Advance {
                 glyphs: (0..font.glyph_count()).collect(),
@@ -106,9 +144,25 @@ impl Calls {
                 coords: coords?,
             },
             "line" => Calls::Advance {
-                glyphs: LINE.chars().map(|c| font.glyph(c)).collect(),
+                glyphs: line(),
                 coords: coords?,
             },
+            "list" => Calls::List {
+                glyphs: (0..font.glyph_count()).collect(),
+                scalars: fill(coords.as_ref()?)?,
+                coords: coords?,
+            },
+            "filling" => {
+                fill(coords.as_ref()?)?;
+                Calls::Filling { coords: coords? }
+            }
+            "kept" => {
+                fill(coords.as_ref()?)?;
+                Calls::Kept {
+                    glyphs: line(),
+                    coords: coords?,
+                }
+            }
             "mvar" => Calls::Mvar {
                 tags: font.mvar_tags(),
                 coords: coords?,
@@ -129,34 +183,67 @@ impl Calls {
 
     fn len(&self) -> usize {
         match self {
-            Calls::Advance { glyphs, .. } | Calls::Raw { glyphs, .. } => glyphs.len(),
+            Calls::Advance { glyphs, .. }
+            | Calls::Raw { glyphs, .. }
+            | Calls::List { glyphs, .. }
+            | Calls::Kept { glyphs, .. } => glyphs.len(),
+            Calls::Filling { .. } => 1,
             Calls::Mvar { tags, .. } => tags.len(),
             Calls::Settings { values, .. } => values.len(),
             Calls::Instances { count } => *count as usize,
         }
     }
 
+    /// Whether a side has such calls.
+    fn are_of(&self, side: &Side) -> bool {
+        side.lists.is_some() || !matches!(self, Calls::Filling { .. })
+    }
+
     /// Makes each call once; answers a sum over all answers, in which their order counts.
-    fn run(&self, side: &Side, font: &Font) -> u64 {
+    fn run(&self, side: &Side, font: &Font, list: &mut [i32]) -> u64 {
         let mut sum = Sum(0);
         let data = black_box(&font.data[..]);
         let hvar = font.offset(b"HVAR");
-        match self {
-            Calls::Advance { glyphs, coords } => {
+        match (self, side.lists) {
+            (
+                Calls::List {
+                    glyphs, scalars, ..
+                },
+                Some(lists),
+            ) => sum.read(lists, scalars, glyphs),
+            (Calls::Filling { coords }, Some(lists)) => {
+                let filled = (lists.filling)(data, black_box(hvar), black_box(coords), list);
+                for &scalar in black_box(filled).map_or(&[][..], |scalars| scalars.as_slice()) {
+                    sum.add(scalar as u32);
+                }
+            }
+            (Calls::Filling { .. }, None) => {}
+            (Calls::Kept { glyphs, coords }, Some(lists)) => {
+                let filled = (lists.filling)(data, black_box(hvar), black_box(coords), list);
+                if let Some(scalars) = filled {
+                    sum.read(lists, &scalars, glyphs);
+                }
+            }
+            (
+                Calls::Advance { glyphs, coords }
+                | Calls::List { glyphs, coords, .. }
+                | Calls::Kept { glyphs, coords },
+                _,
+            ) => {
                 for &glyph in glyphs {
                     let delta =
                         (side.advance)(data, black_box(hvar), black_box(glyph), black_box(coords));
                     sum.add(black_box(delta).to_bits());
                 }
             }
-            Calls::Raw { glyphs, coords } => {
+            (Calls::Raw { glyphs, coords }, _) => {
                 for &glyph in glyphs {
                     let delta =
                         (side.raw)(data, black_box(hvar), black_box(glyph), black_box(coords));
                     sum.add(black_box(delta).map_or(u32::MAX, |delta| delta as u32));
                 }
             }
-            Calls::Mvar { tags, coords } => {
+            (Calls::Mvar { tags, coords }, _) => {
                 let mvar = font.offset(b"MVAR");
                 for &tag in tags {
                     let delta =
@@ -164,7 +251,7 @@ impl Calls {
                     sum.add(black_box(delta).to_bits());
                 }
             }
-            Calls::Settings { tags, values } => {
+            (Calls::Settings { tags, values }, _) => {
                 let (fvar, mut out) = (black_box(font.fvar()), [0; 32]);
                 for values in values {
                     let count = (side.settings)(
@@ -176,7 +263,7 @@ impl Calls {
                     sum.list(&out, count);
                 }
             }
-            Calls::Instances { count } => {
+            (Calls::Instances { count }, _) => {
                 let (fvar, mut out) = (black_box(font.fvar()), [0; 32]);
                 for index in 0..*count {
                     let count = (side.instance)(fvar, black_box(index), black_box(&mut out));
@@ -193,6 +280,15 @@ struct Sum(u64);
 impl Sum {
     fn add(&mut self, bits: u32) {
         self.0 = self.0.wrapping_mul(0x100000001b3).wrapping_add(bits as u64);
+    }
+
+    /// The deltas of glyphs, read with a list.
+    #[inline(always)]
+    fn read(&mut self, lists: Lists, scalars: &Scalars, glyphs: &[u16]) {
+        for &glyph in glyphs {
+            let delta = (lists.list)(black_box(scalars), black_box(glyph));
+            self.add(black_box(delta).to_bits());
+        }
     }
 
     fn list(&mut self, list: &[i16], count: usize) {
@@ -221,7 +317,7 @@ fn step(a: &suolluvik::Axis, step: usize) -> f32 {
     suolluvik::fixed_to_f32((min + (max - min) * step as i64 / (STEPS as i64 - 1)) as i32)
 }
 
-const WORKS: [&str; 14] = [
+const WORKS: [&str; 23] = [
     "advance-up",
     "advance-down",
     "advance-default",
@@ -231,6 +327,15 @@ const WORKS: [&str; 14] = [
     "line-up",
     "line-down",
     "line-default",
+    "list-up",
+    "list-down",
+    "list-default",
+    "filling-up",
+    "filling-down",
+    "filling-default",
+    "kept-up",
+    "kept-down",
+    "kept-default",
     "settings",
     "instances",
     "mvar-up",
@@ -262,16 +367,18 @@ fn check() -> ExitCode {
 /// The least time that the calls, `repeat` times over, took on each side; None where the answers differ.
 fn run(font: &Font, calls: &Calls, rounds: usize, repeat: usize) -> Option<[u128; 3]> {
     let mut least = [u128::MAX; 3];
+    let mut list = vec![0; ROOM];
     for _ in 0..rounds {
         let mut sums = [0u64; 3];
         for (i, side) in SIDES.iter().enumerate() {
             let start = Instant::now();
             for _ in 0..repeat {
-                sums[i] = sums[i].wrapping_add(calls.run(side, font));
+                sums[i] = sums[i].wrapping_add(calls.run(side, font, &mut list));
             }
             least[i] = least[i].min(start.elapsed().as_nanos());
         }
-        if sums[0] != sums[1] || sums[0] != sums[2] {
+        let differs = |i: usize| calls.are_of(&SIDES[i]) && sums[i] != sums[0];
+        if differs(1) || differs(2) {
             return None;
         }
     }
@@ -317,9 +424,12 @@ fn main() -> ExitCode {
                 return fail(&format!("{path}: {work}: the answers differ"));
             };
             if args[0] == "time" {
-                let [ours, checked, unchecked] =
-                    least.map(|ns| ns * 1000 / (calls.len() * repeat) as u128);
-                println!("{ours} {checked} {unchecked}");
+                for (side, ns) in SIDES.iter().zip(least) {
+                    match calls.are_of(side) {
+                        true => println!("{}", ns * 1000 / (calls.len() * repeat) as u128),
+                        false => println!("-"),
+                    }
+                }
             } else {
                 println!("{}", calls.len() * rounds);
             }
@@ -332,8 +442,9 @@ fn main() -> ExitCode {
             let Some(calls) = Calls::new(&font, work) else {
                 return fail("no such work for this font");
             };
+            let mut list = vec![0; ROOM];
             for _ in 0..rounds {
-                black_box(calls.run(SIDES.get(side).unwrap_or(&EMPTY), &font));
+                black_box(calls.run(SIDES.get(side).unwrap_or(&EMPTY), &font, &mut list));
             }
             ExitCode::SUCCESS
         }

@@ -1,6 +1,6 @@
 //! Our functions as the bench calls them, through the wrapper for Rust.
 
-use crate::suolluvik;
+use crate::suolluvik::{self, Scalars};
 
 /// The delta of a glyph's advance.
 #[export_name = "ours_advance"]
@@ -14,6 +14,25 @@ pub fn advance(font: &[u8], xvar: u32, glyph_id: u16, coords: &[i16]) -> f32 {
 #[inline(never)]
 pub fn raw(font: &[u8], xvar: u32, glyph_id: u16, coords: &[i16]) -> Option<i32> {
     suolluvik::advance_delta_fixed(font, xvar, glyph_id, coords).ok()
+}
+
+/// The scalars of HVAR's regions, to the first elements of a list.
+#[export_name = "ours_filling"]
+#[inline(never)]
+pub fn filling<'a>(
+    font: &'a [u8],
+    xvar: u32,
+    coords: &[i16],
+    list: &'a mut [i32],
+) -> Option<Scalars<'a>> {
+    Scalars::fill(font, xvar, coords, list).ok()
+}
+
+/// The delta of a glyph's advance, with these.
+#[export_name = "ours_list"]
+#[inline(never)]
+pub fn list(scalars: &Scalars, glyph_id: u16) -> f32 {
+    scalars.advance_delta(glyph_id).unwrap_or(0.)
 }
 
 /// The delta of a measure.

@@ -3,7 +3,7 @@ use mathlib.Core.Path.{_≡_, refl}
 use mathlib.Core.List.{List, [], _∷_, _++_}
 use Prim.Native.Nat.{ℕ}
 use lib.ListN.{take}
-use lib.IntN.{ℤ, pos}
+use lib.IntN.{ℤ, pos, negsuc}
 use lib.Ieee.{Float}
 use Rattle.readers.specs.Outcome.{value, refused}
 use Rattle.readers.specs.Reading.{run, unsignedAt}
@@ -12,6 +12,7 @@ use Rattle.opentype.specs.Item.{itemDelta}
 use Rattle.opentype.specs.Metric.{advance, bearing, metricDelta, floatOf}
 use Rattle.opentype.specs.Mvar.{mvarDelta}
 use Rattle.opentype.specs.MvarTags.{hasc, hdsc}
+use Rattle.opentype.specs.Lines.{fillCount, filled, itemDeltaWith, metricDeltaWith, mvarStore, mvarDeltaWith}
 use Rattle.opentype.specs.Xmtx.{advanceAt, sbAt}
 use Rattle.opentype.specs.Vorg.{originAt}
 use Rattle.opentype.specs.Footprint.{bytes, metricFootprint}
@@ -19,6 +20,7 @@ use Rattle.opentype.proofs.ItemCount.{uncountedRow, uncountedItem, uncountedDel
 use Rattle.opentype.proofs.DeltaTable.{s5-font, with-byte, two-maps, one-row, two-words}
 use Rattle.opentype.proofs.MvarTable.{sorted}
 use Rattle.opentype.proofs.FootprintTable.{footing}
+use Rattle.opentype.proofs.LinesTable.{lining, ending, left-outside, run-out, mvar-list}
 use Rattle.opentype.proofs.XmtxTable.{origins}
 use Rattle.opentype.proofs.InstanceTable.{computing-instances, no-axes, one-axis-of, one-axis, asked, names}
 use Rattle.metrics.proofs.MeasuresTable.{computing-measures}
@@ -38,6 +40,10 @@ one-of-two = with-byte 57 1 sorted
 -- 2.0
 abbrev two : Float
 two = float 0x4000_0000
+
+-- Three places that hold 7.
+abbrev sevens : List ℤ
+sevens = pos 7 ∷ pos 7 ∷ pos 7 ∷ []
 
 pub record Requests : Type 0 where
   -- A row outside the item count is an index that is too large: refusal 3, after 5.
@@ -114,11 +120,45 @@ pub record Requests : Type 0 where
       × (asked one-axis 2 ≡ refused 3)
       × (asked (no-axes 6 []) 0 ≡ refused 2)
       × (asked (no-axes 1 (1 ∷ 2 ∷ [])) 0 ≡ refused 5)
+  -- A list of scalars, filled once; the deltas that are read with it.
+  pub W-204 :
+      -- "One 32-bit number per region in a lent list, filled once, with −1 for a region whose record runs out before its scalar is known": below 0 region 1 is left outside in its first triple, and is known.
+      (filled ending 20 (negsuc 0 ∷ []) sevens ≡ pos 65536 ∷ pos 0 ∷ pos 7 ∷ [])
+      × (filled ending 20 [] sevens ≡ pos 65536 ∷ negsuc 0 ∷ pos 7 ∷ [])
+      × (fillCount ending 20 3 ≡ value 2)
+      -- "Deltas read from that list must equal those of the present walk for the same font and coordinates, refusals and their order too."
+      × (itemDeltaWith ending 20 1 0 left-outside ≡ itemDelta ending 20 1 0 (negsuc 0 ∷ []))
+      × (itemDeltaWith ending 20 1 0 run-out ≡ itemDelta ending 20 1 0 [])
+      × (itemDelta ending 20 1 0 [] ≡ refused 2)
+      -- "An unreadable region that no row names must harm nobody."
+      × (metricDeltaWith ending 4 advance 1 run-out ≡ value (pos 1310720))
+      × (metricDelta ending 4 advance 1 [] ≡ value (pos 1310720))
+      -- "At filling, 1 for store offset 0, 2 for the region list's offset and its two counts as they are read, then 7 if the list is shorter than the region count; no number is written then."
+      × (fillCount ending 0 3 ≡ refused 1)
+      × (fillCount (take 25 ending) 20 3 ≡ refused 2)
+      × (fillCount (take 95 ending) 20 3 ≡ refused 2)
+      × (fillCount (take 97 ending) 20 0 ≡ refused 2)
+      × (fillCount ending 20 1 ≡ refused 7)
+      × (filled ending 20 [] (pos 7 ∷ []) ≡ pos 7 ∷ [])
+      -- "A delta read gives 7 for such a list just before the first region index, even where the subtable names no region": after 5 and inner's 3.
+      × (itemDeltaWith ending 20 2 0 (pos 7 ∷ []) ≡ refused 7)
+      × (itemDeltaWith ending 20 4 0 (pos 7 ∷ []) ≡ refused 7)
+      × (itemDeltaWith ending 20 3 0 [] ≡ refused 5)
+      × (itemDeltaWith ending 20 2 1 [] ≡ refused 3)
+      -- Only −1 is a mark; any other number multiplies, modulo 2^32.
+      × (itemDeltaWith ending 20 0 0 (negsuc 0 ∷ pos 0 ∷ []) ≡ refused 2)
+      × (itemDeltaWith ending 20 0 0 (negsuc 1 ∷ negsuc 0 ∷ []) ≡ value (negsuc 19))
+      × (itemDeltaWith ending 20 0 0 (pos 2147483647 ∷ pos 0 ∷ []) ≡ value (negsuc 9))
+      -- A tag, with the list of its own store, which counts from the MVAR's start.
+      × (mvarStore sorted 2 ≡ value 28)
+      × (mvarDeltaWith sorted 2 hasc mvar-list ≡ mvarDelta sorted 2 hasc (pos 0x2000 ∷ []))
+      × (mvarDelta sorted 2 hasc (pos 0x2000 ∷ []) ≡ value (pos 655360))
 
 pub requests : Requests
-unfolding computing-measures s5-font itemDelta uncountedRow uncountedItem uncountedDelta reading footing adjustedFootprint computing-instances
+unfolding computing-measures s5-font itemDelta uncountedRow uncountedItem uncountedDelta reading footing adjustedFootprint computing-instances lining
 requests = record {
   W-201 = λ coords. (refl, refl, refl, refl, refl, refl, refl, refl, refl, refl, refl, refl, refl, refl, refl);
   W-202 = (refl, refl, refl, refl, refl, refl, refl, refl, refl, refl, refl, refl, refl, refl, refl, refl, refl, refl, refl, refl, refl, refl);
   W-203 = (refl, refl, refl, refl, refl, refl, refl, refl, refl, refl, refl, refl);
+  W-204 = (refl, refl, refl, refl, refl, refl, refl, refl, refl, refl, refl, refl, refl, refl, refl, refl, refl, refl, refl, refl, refl, refl, refl, refl);
 }

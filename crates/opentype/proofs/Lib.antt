@@ -4,6 +4,7 @@ pub mod InstanceTable
 pub mod ItemCount
 pub mod DeltaTable
 pub mod MvarTable
+pub mod LinesTable
 pub mod XmtxTable
 pub mod FootprintTable
 pub mod Search

@@ -95,10 +95,10 @@ pub subtable-count-not-read : fillCount (hvar ++ (0 ∷ 1 ∷ 0 ∷ 0 ∷ 0 ∷ 
 unfolding lining
 subtable-count-not-read = refl
 
--- A region with no axes has the scalar 1, whatever the coordinates.
-pub no-axes : (coords : List ℤ) → filled h1-font 28 coords (pos 7 ∷ []) ≡ pos 65536 ∷ []
+-- A region with no axes has the scalar 1, whatever the coordinates; the list has a place for it all the same, at filling and at reading.
+pub no-axes : (coords : List ℤ) → (filled h1-font 28 coords (pos 7 ∷ []) ≡ pos 65536 ∷ []) × (fillCount h1-font 28 0 ≡ refused 7) × (itemDeltaWith h1-font 28 0 0 [] ≡ refused 7)
 unfolding lining h1-font
-no-axes coords = refl
+no-axes coords = (refl, refl, refl)
 
 -- ---- reading with the list
 
@@ -133,6 +133,11 @@ pub marked : (itemDeltaWith ending 20 0 0 (negsuc 0 ∷ pos 0 ∷ []) ≡ refuse
     × (itemDeltaWith ending 20 0 0 (pos 3 ∷ negsuc 0 ∷ []) ≡ value (pos 30))
 unfolding lining
 marked = (refl, refl, refl, refl)
+
+-- A list that is longer than the region count has no region for an index past it.
+pub past-the-regions : (itemDeltaWith ending 20 4 0 (pos 1 ∷ pos 0 ∷ pos 9 ∷ []) ≡ refused 3) × (itemDeltaWith ending 20 4 0 (pos 1 ∷ pos 0 ∷ negsuc 0 ∷ []) ≡ refused 3)
+unfolding lining
+past-the-regions = (refl, refl)
 
 -- Any other number multiplies, modulo 2^32.
 pub any-number : (itemDeltaWith ending 20 0 0 (negsuc 1 ∷ pos 0 ∷ []) ≡ value (negsuc 19))

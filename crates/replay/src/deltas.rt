@@ -170,7 +170,7 @@ fn of_tag<'a>(font: &'a [u8], offset: u32, text: &[u8], coords: &'a [i16]) -> An
 }
 
 // A delta as a float.
-fn as_float(answer: Answer) -> Answer {
+pub(crate) fn as_float(answer: Answer) -> Answer {
     match answer {
         Answer::Delta(delta) => Answer::Float(metric::float_of(delta)),
         a => a,

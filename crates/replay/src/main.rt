@@ -9,6 +9,7 @@ mod glyphs;
 mod measures;
 mod parse;
 mod print;
+mod scalars;
 mod tables;
 mod words;
 
@@ -57,9 +58,16 @@ fn answer_glyph(line: &[u8], out: &mut Buffer, waiting: usize) -> usize {
 
 fn answer_tables(line: &[u8], out: &mut Buffer, waiting: usize) -> usize {
     match tables::of_line(line) {
-        tables::Answer::NoCase => fvar::put_line(line, out, waiting),
+        tables::Answer::NoCase => answer_scalars(line, out, waiting),
         a => tables::put(a, out, waiting),
     }
+}
+
+fn answer_scalars(line: &[u8], out: &mut Buffer, waiting: usize) -> usize {
+    if scalars::takes(line) {
+        return scalars::put_line(line, out, waiting);
+    }
+    fvar::put_line(line, out, waiting)
 }
 
 // A line that fills the buffer is no case: its end is not there.

@@ -4,6 +4,7 @@ ghost use Prim.Native.Nat.{_≤_, _*_, _+_};
 ghost use lib.ListN.{length};
 use crate::Buffer;
 use crate::words::same;
+use numbers::Fixed;
 use numbers::as_i16;
 pub(crate) use numerals::Parsed;
 pub(crate) use numerals::Place;
@@ -21,6 +22,8 @@ pub(crate) type Floats = [f32; 256];
 
 pub(crate) type Halves = [i16; 256];
 
+pub(crate) type Words = [i32; 256];
+
 // Made by calls, so that no caller's proof has all their elements in it.
 pub(crate) fn empty_bits() -> Bits {
     [0; 256]
@@ -32,6 +35,10 @@ pub(crate) fn empty_floats(mark: f32) -> Floats {
 
 pub(crate) fn empty_halves(mark: i16) -> Halves {
     [mark; 256]
+}
+
+fn empty_words() -> Words {
+    [0; 256]
 }
 
 pub(crate) enum Size {
@@ -239,6 +246,21 @@ pub(crate) fn floats(bits: &Bits, size: usize, out: &mut Floats) {
     }
 }
 
+// The signed numbers with the bits of a list. Answered, so that the list is the caller's own and a part of it can be lent.
+pub(crate) fn signed_words(bits: &Bits) -> Words {
+    let mut out = empty_words();
+    let mut i = 0;
+    while i < 256 {
+        out[i] = signed(bits[i]);
+        i += 1;
+    }
+    out
+}
+
+fn signed(bits: u32) -> i32 {
+    Fixed::from_bits(bits).0
+}
+
 // A list's first elements.
 pub(crate) fn first(list: &Bits, size: usize) -> &[u32] {
     let whole: &[u32] = list;
@@ -258,6 +280,14 @@ pub(crate) fn first_floats(list: &Floats, size: usize) -> &[f32] {
 
 pub(crate) fn first_halves(list: &Halves, size: usize) -> &[i16] {
     let whole: &[i16] = list;
+    if size < whole.len() {
+        return &whole[0..size];
+    }
+    whole
+}
+
+pub(crate) fn first_words(list: &Words, size: usize) -> &[i32] {
+    let whole: &[i32] = list;
     if size < whole.len() {
         return &whole[0..size];
     }

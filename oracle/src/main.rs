@@ -1,6 +1,7 @@
 //! Cases of what was ported, answered by swash itself. README.md beside this folder says how to use it.
 
 mod axes;
+mod lines;
 mod metrics;
 mod numbers;
 mod private;
@@ -19,7 +20,7 @@ use std::panic::{catch_unwind, resume_unwind};
 use std::process::ExitCode;
 
 const USAGE: &str = "\
-oracle cases SEED COUNT SUBJECT      write COUNT cases of numbers, axes, store, metrics, widths or all
+oracle cases SEED COUNT SUBJECT      write COUNT cases of numbers, axes, store, metrics, widths, lines or all
 oracle sample SEED                   write the cases of the stored sample
 oracle answers                       answer the cases on standard input
 oracle stops                         of the cases on standard input write those on which the Rust stops
@@ -39,7 +40,8 @@ pub enum Rust {
     /// panics, by an overflow check
     Stops,
     /// has no counterpart: a list too short, lists of different length, an avar, an outer index over 16
-    /// bits, a measure that is no 16-bit integer, a number that is read from hmtx, vmtx or VORG
+    /// bits, a measure that is no 16-bit integer, a number that is read from hmtx, vmtx or VORG, a list of
+    /// scalars
     Silent,
 }
 
@@ -117,6 +119,7 @@ fn of_subjects(line: &str) -> Option<Expected> {
         .or_else(|| store::tags(line))
         .or_else(|| metrics::parse(line).map(|case| case.expected()))
         .or_else(|| widths::parse(line).map(|case| case.expected()))
+        .or_else(|| lines::parse(line).map(|case| case.expected()))
 }
 
 /// What stands for a line that is no case.
@@ -287,12 +290,14 @@ fn cases(seed: &str, count: &str, subject: &str) -> Option<Box<dyn Iterator<Item
     let mut store = store::cases::with_counts(seed);
     let mut metrics = metrics::cases::with_counts(seed);
     let mut widths = widths::cases::with_counts(seed);
+    let mut lines = lines::cases::Cases::new(seed);
     let all: Box<dyn Iterator<Item = String>> = match subject {
         "numbers" => Box::new(numbers),
         "axes" => Box::new(axes),
         "store" => Box::new(store),
         "metrics" => Box::new(metrics),
         "widths" => Box::new(widths),
+        "lines" => Box::new(lines),
         "all" => {
             let turn = move |number| {
                 [
@@ -301,6 +306,7 @@ fn cases(seed: &str, count: &str, subject: &str) -> Option<Box<dyn Iterator<Item
                     store.next(),
                     metrics.next(),
                     widths.next(),
+                    lines.next(),
                 ]
             };
             Box::new(numbers.flat_map(turn).flatten())
@@ -322,8 +328,11 @@ const SAMPLE_OF_COUNTS: usize = 400;
 /// Lines of widths, behind these.
 const SAMPLE_OF_WIDTHS: usize = 653;
 
-/// Lines of an instance's PostScript name id, behind all others.
+/// Lines of an instance's PostScript name id, behind these.
 const SAMPLE_OF_NAMES: usize = 326;
+
+/// Lines of scalars in a list, behind all others.
+const SAMPLE_OF_LINES: usize = 750;
 
 fn run(words: &[&str]) -> Option<bool> {
     match *words {
@@ -343,6 +352,7 @@ fn run(words: &[&str]) -> Option<bool> {
             write_all(metrics::cases::sample_of_counts(seed, SAMPLE_OF_COUNTS / 2).into_iter());
             write_all(widths::cases::sample(seed, SAMPLE_OF_WIDTHS).into_iter());
             write_all(axes::names::sample(seed, SAMPLE_OF_NAMES).into_iter());
+            write_all(lines::cases::sample(seed, SAMPLE_OF_LINES).into_iter());
         }
         ["answers"] => {
             let answer = |line: String| {

@@ -11,6 +11,8 @@ mod damage;
 mod font;
 #[path = "shelf/judge.rs"]
 mod judge;
+#[path = "shelf/lists.rs"]
+mod lists;
 #[path = "shelf/named.rs"]
 mod named;
 mod private;
@@ -37,6 +39,10 @@ mod axes {
 }
 #[allow(dead_code)]
 mod store {
+    pub mod rules;
+}
+#[allow(dead_code)]
+mod lines {
     pub mod rules;
 }
 #[allow(dead_code)]
@@ -152,6 +158,7 @@ struct Row {
     /// with hmtx, with vmtx, with VORG
     tables: [u64; 3],
     read: read::Tally,
+    filled: lists::Tally,
 }
 
 impl Row {
@@ -168,6 +175,12 @@ impl Row {
         columns
     }
 
+    fn filled_columns(&self) -> Vec<u64> {
+        let mut columns = vec![self.fonts];
+        columns.extend(self.filled.columns());
+        columns
+    }
+
     fn add(&mut self, other: &Row) {
         self.fonts += other.fonts;
         self.without_fvar += other.without_fvar;
@@ -176,6 +189,7 @@ impl Row {
             *sum += more;
         }
         self.read.add(&other.read);
+        self.filled.add(&other.filled);
     }
 }
 
@@ -193,6 +207,7 @@ struct Shelf {
     rows: BTreeMap<String, Row>,
     functions: [Tally; FUNCTIONS.len()],
     readings: [read::Tally; read::FUNCTIONS.len()],
+    fillings: [lists::Tally; lists::FUNCTIONS.len()],
     without_fvar: Vec<String>,
 }
 
@@ -296,6 +311,10 @@ impl Shelf {
                 row.read.add(tally);
                 self.readings[k].add(tally);
             }
+            for (k, tally) in self.judge.filling.take().iter().enumerate() {
+                row.filled.add(tally);
+                self.fillings[k].add(tally);
+            }
             for (k, tally) in self.judge.take().iter().enumerate() {
                 row.tally.add(tally);
                 self.functions[k].add(tally);
@@ -304,10 +323,11 @@ impl Shelf {
         Ok(())
     }
 
-    /// Prints both pairs of tables, and answers whether there is no difference.
+    /// Prints the pairs of tables, and answers whether there is no difference.
     fn table(&self) -> bool {
         let names = self.rows.keys().map(|name| name.chars().count());
         let functions = FUNCTIONS.iter().chain(&read::FUNCTIONS);
+        let functions = functions.chain(&lists::FUNCTIONS);
         let longest = names.chain(functions.map(|name| name.len())).max();
         let longest = longest.unwrap_or(0);
         let mut columns = vec!["fonts", "without fvar"];
@@ -325,8 +345,26 @@ impl Shelf {
             print_row(longest, name, &tally.columns());
         }
         print_row(longest, "all", &total.tally.columns());
+        self.filled_tables(longest, &total);
         self.read_tables(longest, &total);
-        total.tally.differences + total.read.differences == 0
+        total.tally.differences + total.read.differences + total.filled.differences == 0
+    }
+
+    fn filled_tables(&self, longest: usize, total: &Row) {
+        println!("\nWhere stores are, and lists of scalars filled, by the rules:\n");
+        let mut columns = vec!["fonts"];
+        columns.extend(lists::COLUMNS);
+        print_row(longest, "folder", &columns);
+        for (name, row) in &self.rows {
+            print_row(longest, name, &row.filled_columns());
+        }
+        print_row(longest, "all", &total.filled_columns());
+        println!();
+        print_row(longest, "function", &lists::COLUMNS);
+        for (name, tally) in lists::FUNCTIONS.iter().zip(&self.fillings) {
+            print_row(longest, name, &tally.columns());
+        }
+        print_row(longest, "all", &total.filled.columns());
     }
 
     fn read_tables(&self, longest: usize, total: &Row) {
@@ -355,6 +393,7 @@ fn compare(folder: &Path, damage: Option<(u64, u64)>) -> io::Result<bool> {
         rows: BTreeMap::new(),
         functions: [Tally::default(); FUNCTIONS.len()],
         readings: Default::default(),
+        fillings: Default::default(),
         without_fvar: vec![],
     };
     let count = files.fonts.len();

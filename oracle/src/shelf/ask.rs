@@ -2,7 +2,9 @@
 
 use super::font::{u16_at, u32_at, Font};
 use super::judge::{asked, Function, Judge, Rust, CHANGED};
+use super::lists::{self, Question, Table};
 use crate::axes::rules::{self as axis_rules, Answer, NO_AVAR};
+use crate::lines::rules as line_rules;
 use crate::numbers::rules::to_f32;
 use crate::private::internal::fixed::Fixed;
 use crate::private::internal::var::{self, Fvar, VarAxis};
@@ -12,7 +14,7 @@ use crate::private::variation::{Instances, Variation, Variations};
 use crate::private::FontRef;
 use crate::random::Random;
 use crate::store::rules::{self as store_rules, Map, Rows, COUNTED, UNCOUNTED};
-use crate::suolluvik::{self, Refusal};
+use crate::suolluvik::{self, MvarScalars, Refusal, Scalars};
 use crate::tags::TAGS;
 
 /// A tag that no font has.
@@ -110,6 +112,12 @@ fn our_list<T: Copy, U: PartialEq + Copy>(
     }
 }
 
+/// A delta of ours in its two forms.
+type Ours = (Result<i32, Refusal>, Result<f32, Refusal>);
+
+/// The same delta through a filled list: ours, and by the rules.
+type Through = Option<(Ours, Answer<i64>)>;
+
 pub struct Asker<'a, 'j> {
     pub font: Font<'a>,
     pub judge: &'j mut Judge,
@@ -125,10 +133,45 @@ impl<'a> Asker<'a, '_> {
         self.instances();
         self.settings();
         let lists = self.lists();
-        for list in &lists {
-            self.measures(list);
+        self.stores();
+        for (k, list) in lists.iter().enumerate() {
+            self.measures(k, list);
         }
         self.glyphs(&lists);
+    }
+
+    fn store<'q>(&self, table: Table, coords: &'q [i16]) -> Question<'q>
+    where
+        'a: 'q,
+    {
+        let at = match table {
+            Table::Hvar => self.font.hvar,
+            Table::Vvar => self.font.vvar,
+            Table::Mvar => self.font.mvar,
+        };
+        let font = self.font.data;
+        Question {
+            font,
+            table,
+            at,
+            coords,
+        }
+    }
+
+    fn stores(&mut self) {
+        for table in [Table::Hvar, Table::Vvar, Table::Mvar] {
+            let asked = self.store(table, &[]);
+            self.judge.filling.offset(&self.judge.input, asked);
+        }
+    }
+
+    /// What the rules leave in a table's list, and room for the library's: for every other coordinate list just
+    /// enough, else three elements more.
+    fn filled(&mut self, table: Table, k: usize, coords: &[i16]) -> (Vec<i32>, Vec<i32>) {
+        let asked = self.store(table, coords);
+        let said = self.judge.filling.fill(&self.judge.input, asked);
+        let room = lists::unfilled(said.len() + 3 * (k % 2));
+        (said, room)
     }
 
     fn axis_count(&self) -> usize {
@@ -392,8 +435,10 @@ impl<'a> Asker<'a, '_> {
         once
     }
 
-    fn measures(&mut self, coords: &[i16]) {
+    fn measures(&mut self, k: usize, coords: &[i16]) {
         let (font, mvar) = (self.font.data, self.font.mvar);
+        let (said, mut list) = self.filled(Table::Mvar, k, coords);
+        let scalars = MvarScalars::fill(font, mvar, coords, &mut list).ok();
         let mut tags = TAGS.to_vec();
         tags.extend([0, UNKNOWN]);
         if mvar == 0 {
@@ -425,7 +470,13 @@ impl<'a> Asker<'a, '_> {
                 suolluvik::mvar_delta(font, mvar, tag, coords),
             );
             let functions = [Function::MvarFixed, Function::Mvar];
-            self.delta(functions, arguments, raw, float, ours, rule);
+            let through = scalars.map(|scalars| {
+                let ours = (scalars.delta_fixed(tag), scalars.delta(tag));
+                let base = mvar as usize;
+                let said = line_rules::tag_delta(font, base, tag, &said, &mut { COUNTED });
+                (ours, said)
+            });
+            self.delta(functions, arguments, raw, float, ours, rule, through);
         }
     }
 
@@ -474,18 +525,25 @@ impl<'a> Asker<'a, '_> {
             ),
             (Map::Bearing, Function::VvarSbFixed, Function::VvarSb),
         ];
-        for (table, functions) in [(self.font.hvar, horizontal), (self.font.vvar, vertical)] {
-            for (map, fixed, float) in functions {
-                // with no table, and with no map of bearings, one glyph tells all
-                let map_offset = u32_at(self.font.data, table as usize + map as usize);
-                let none = table == 0 || (map == Map::Bearing && map_offset == Some(0));
-                let glyphs = if none { &glyphs[..1] } else { &glyphs[..] };
-                for list in lists.iter().take(most) {
+        let tables = [
+            (Table::Hvar, self.font.hvar, horizontal),
+            (Table::Vvar, self.font.vvar, vertical),
+        ];
+        for (name, table, functions) in tables {
+            for (k, list) in lists.iter().take(most).enumerate() {
+                let (said, mut room) = self.filled(name, k, list);
+                let scalars = Scalars::fill(self.font.data, table, list, &mut room).ok();
+                let through = scalars.map(|scalars| (scalars, &said[..]));
+                for (map, fixed, float) in functions {
+                    // with no table, and with no map of bearings, one glyph tells all
+                    let map_offset = u32_at(self.font.data, table as usize + map as usize);
+                    let none = table == 0 || (map == Map::Bearing && map_offset == Some(0));
+                    let glyphs = if none { &glyphs[..1] } else { &glyphs[..] };
                     for glyph in glyphs {
-                        self.glyph(table, map, [fixed, float], *glyph, list);
+                        self.glyph(table, map, [fixed, float], *glyph, list, through);
                     }
-                    self.judge.progress();
                 }
+                self.judge.progress();
             }
         }
     }
@@ -497,11 +555,11 @@ impl<'a> Asker<'a, '_> {
         functions: [Function; 2],
         glyph: u16,
         coords: &[i16],
+        filled: Option<(Scalars, &[i32])>,
     ) {
         let font = self.font.data;
-        let rule = |rows: &mut Rows| {
-            store_rules::metric(font, table as usize, map, glyph as usize, coords, rows)
-        };
+        let (base, index) = (table as usize, glyph as usize);
+        let rule = |rows: &mut Rows| store_rules::metric(font, base, map, index, coords, rows);
         let arguments = || format!("offset {table}, glyph {glyph}, coordinates {coords:?}");
         let (raw, float, ours) = match map {
             Map::Advance => (
@@ -521,21 +579,33 @@ impl<'a> Asker<'a, '_> {
                 ),
             ),
         };
+        let through = filled.map(|(scalars, said)| {
+            let ours = match map {
+                Map::Advance => (
+                    scalars.advance_delta_fixed(glyph),
+                    scalars.advance_delta(glyph),
+                ),
+                Map::Bearing => (scalars.sb_delta_fixed(glyph), scalars.sb_delta(glyph)),
+            };
+            let said = line_rules::metric(font, base, map, index, said, &mut { COUNTED });
+            (ours, said)
+        });
         let (raw, float) = (map_answer(raw, |d| d.0), map_answer(float, f32::to_bits));
-        self.delta(functions, arguments, raw, float, ours, rule);
+        self.delta(functions, arguments, raw, float, ours, rule, through);
     }
 
     /// A delta in its two forms. The raw one comes through the hook; its float must be the one that
     /// the unchanged file answers, where 0.0 stands for `None` too. The second model is asked where the
-    /// row is outside the item count.
+    /// row is outside the item count. Through a filled list it must be the same, and is judged again.
     fn delta(
         &mut self,
         [fixed, float]: [Function; 2],
         arguments: impl Fn() -> String,
         rust: Rust<i32>,
         rust_float: Rust<u32>,
-        ours: (Result<i32, Refusal>, Result<f32, Refusal>),
+        ours: Ours,
         rule: impl Fn(&mut Rows) -> Answer<i64>,
+        through: Through,
     ) {
         let (alike, rust_float) = match (&rust, rust_float) {
             (Rust::Answer(raw), Rust::Answer(bits)) => {
@@ -551,14 +621,18 @@ impl<'a> Asker<'a, '_> {
         let said = rule(&mut rows);
         let uncounted = rows.outside.then(|| rule(&mut { UNCOUNTED }));
         let raw = |said: Answer<i64>| said.map(|delta| delta as i32);
-        let given = ours.0.map_err(Refusal::number);
-        let by_rules = (raw(said), uncounted.map(raw));
-        self.judge.delta(fixed, &arguments, rust, given, by_rules);
         let bits = |said: Answer<i64>| said.map(|delta| to_f32(delta as i128));
-        let given = ours.1.map(f32::to_bits).map_err(Refusal::number);
-        let by_rules = (bits(said), uncounted.map(bits));
-        self.judge
-            .delta(float, &arguments, rust_float, given, by_rules);
+        let plain = Some(([fixed, float], ours, said));
+        let through = through.map(|(ours, said)| ([fixed.with(), float.with()], ours, said));
+        for ([fixed, float], ours, said) in plain.into_iter().chain(through) {
+            let given = ours.0.map_err(Refusal::number);
+            let by_rules = (raw(said), uncounted.map(raw));
+            self.judge.delta(fixed, &arguments, rust, given, by_rules);
+            let given = ours.1.map(f32::to_bits).map_err(Refusal::number);
+            let by_rules = (bits(said), uncounted.map(bits));
+            self.judge
+                .delta(float, &arguments, rust_float, given, by_rules);
+        }
     }
 }
 

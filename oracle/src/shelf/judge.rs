@@ -1,5 +1,6 @@
 //! What is compared, and what counts as a difference. README.md has the table.
 
+use super::lists::Filling;
 use crate::axes::rules::Answer;
 use std::cell::Cell;
 use std::fmt::Debug;
@@ -7,6 +8,7 @@ use std::panic::{catch_unwind, AssertUnwindSafe};
 use std::time::{Duration, Instant};
 
 /// What the Rust does.
+#[derive(Clone, Copy)]
 pub enum Rust<T> {
     Answer(T),
     /// answers `None`, with no number
@@ -54,9 +56,38 @@ pub enum Function {
     VvarSb,
     MvarFixed,
     Mvar,
+    HvarAdvanceFixedWith,
+    HvarAdvanceWith,
+    HvarSbFixedWith,
+    HvarSbWith,
+    VvarAdvanceFixedWith,
+    VvarAdvanceWith,
+    VvarSbFixedWith,
+    VvarSbWith,
+    MvarFixedWith,
+    MvarWith,
 }
 
-pub const FUNCTIONS: [&str; 17] = [
+impl Function {
+    /// The same delta, read with a filled list.
+    pub fn with(self) -> Self {
+        match self {
+            Function::HvarAdvanceFixed => Function::HvarAdvanceFixedWith,
+            Function::HvarAdvance => Function::HvarAdvanceWith,
+            Function::HvarSbFixed => Function::HvarSbFixedWith,
+            Function::HvarSb => Function::HvarSbWith,
+            Function::VvarAdvanceFixed => Function::VvarAdvanceFixedWith,
+            Function::VvarAdvance => Function::VvarAdvanceWith,
+            Function::VvarSbFixed => Function::VvarSbFixedWith,
+            Function::VvarSb => Function::VvarSbWith,
+            Function::MvarFixed => Function::MvarFixedWith,
+            Function::Mvar => Function::MvarWith,
+            other => other,
+        }
+    }
+}
+
+pub const FUNCTIONS: [&str; 27] = [
     "axis_count, instance_count",
     "axis",
     "axis_by_tag",
@@ -74,6 +105,16 @@ pub const FUNCTIONS: [&str; 17] = [
     "sb_delta, VVAR",
     "mvar_delta_fixed",
     "mvar_delta",
+    "Scalars, advance_delta_fixed, HVAR",
+    "Scalars, advance_delta, HVAR",
+    "Scalars, sb_delta_fixed, HVAR",
+    "Scalars, sb_delta, HVAR",
+    "Scalars, advance_delta_fixed, VVAR",
+    "Scalars, advance_delta, VVAR",
+    "Scalars, sb_delta_fixed, VVAR",
+    "Scalars, sb_delta, VVAR",
+    "MvarScalars, delta_fixed",
+    "MvarScalars, delta",
 ];
 
 #[derive(Clone, Copy, Default)]
@@ -148,6 +189,8 @@ pub struct Judge {
     /// for the progress: which of how many fonts
     pub place: String,
     pub tallies: [Tally; FUNCTIONS.len()],
+    /// where stores are, and lists filled, which the Rust has not
+    pub filling: Filling,
     said: Instant,
 }
 
@@ -157,6 +200,7 @@ impl Judge {
             input: String::new(),
             place: String::new(),
             tallies: [Tally::default(); FUNCTIONS.len()],
+            filling: Filling::default(),
             said: Instant::now(),
         }
     }

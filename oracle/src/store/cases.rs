@@ -8,13 +8,13 @@ use crate::random::Random;
 use crate::text;
 
 /// A region: start, peak and end for each axis.
-type Region = Vec<[i16; 3]>;
+pub type Region = Vec<[i16; 3]>;
 
 #[derive(Clone)]
 pub struct Subtable {
     pub item_count: u16,
-    word_count: u16,
-    indices: Vec<u16>,
+    pub word_count: u16,
+    pub indices: Vec<u16>,
     /// an entry has its low byte alone where it is behind the words
     pub rows: Vec<Vec<i16>>,
 }
@@ -51,11 +51,11 @@ impl Subtable {
 
 #[derive(Clone)]
 pub struct Store {
-    axis_count: u16,
-    regions: Vec<Region>,
+    pub axis_count: u16,
+    pub regions: Vec<Region>,
     pub subtables: Vec<Subtable>,
     /// whether the regions lie behind the subtables, where a cut meets them
-    regions_last: bool,
+    pub regions_last: bool,
 }
 
 impl Store {
@@ -77,7 +77,7 @@ impl Store {
         bytes
     }
 
-    fn bytes(&self) -> Vec<u8> {
+    pub fn bytes(&self) -> Vec<u8> {
         let mut parts: Vec<Vec<u8>> = self.subtables.iter().map(Subtable::bytes).collect();
         let list = if self.regions_last { parts.len() } else { 0 };
         parts.insert(list, self.region_list());
@@ -98,14 +98,14 @@ impl Store {
 
 /// A map from glyphs to rows.
 #[derive(Clone)]
-struct Map {
+pub struct Map {
     format: u16,
     count: u16,
     entries: Vec<u32>,
 }
 
 impl Map {
-    fn of(size: u16, inner_bits: u16, entries: &[u32]) -> Self {
+    pub fn of(size: u16, inner_bits: u16, entries: &[u32]) -> Self {
         Map {
             format: (size - 1) << 4 | (inner_bits - 1),
             count: entries.len() as u16,
@@ -113,7 +113,7 @@ impl Map {
         }
     }
 
-    fn bytes(&self) -> Vec<u8> {
+    pub fn bytes(&self) -> Vec<u8> {
         let size = (self.format >> 4 & 3) as usize + 1;
         let mut bytes = self.format.to_be_bytes().to_vec();
         bytes.extend(self.count.to_be_bytes());
@@ -125,10 +125,10 @@ impl Map {
 }
 
 /// Where HVAR or VVAR is in the fonts here.
-const BASE: usize = 4;
+pub const BASE: usize = 4;
 
 /// A font with an HVAR: its header, the maps, the store.
-fn hvar(advance: Option<&Map>, bearing: Option<&Map>, store: &Store) -> Vec<u8> {
+pub fn hvar(advance: Option<&Map>, bearing: Option<&Map>, store: &Store) -> Vec<u8> {
     let mut offsets = [0; 2];
     let mut behind = vec![];
     for (offset, map) in offsets.iter_mut().zip([advance, bearing]) {
@@ -186,12 +186,12 @@ fn put(bytes: &mut Vec<u8>, at: usize, part: &[u8]) {
 }
 
 pub const RISE: [i16; 3] = [0, 16384, 16384];
-const HILL: [i16; 3] = [0, 12288, 16384];
-const FALL: [i16; 3] = [-16384, -16384, 0];
+pub const HILL: [i16; 3] = [0, 12288, 16384];
+pub const FALL: [i16; 3] = [-16384, -16384, 0];
 /// skipped, since it holds 0
 pub const ALWAYS: [i16; 3] = [-16384, 8192, 16384];
 
-const TAGS: [u32; 6] = [
+pub const TAGS: [u32; 6] = [
     u32::from_be_bytes(*b"hasc"),
     u32::from_be_bytes(*b"hdsc"),
     u32::from_be_bytes(*b"undo"),
@@ -201,11 +201,11 @@ const TAGS: [u32; 6] = [
 ];
 
 /// A font, and what is asked of it: a name, and what stands behind the font.
-struct Asked {
-    font: Vec<u8>,
-    questions: Vec<(&'static str, String)>,
+pub struct Asked {
+    pub font: Vec<u8>,
+    pub questions: Vec<(&'static str, String)>,
     /// whether it is asked at every length
-    cut: bool,
+    pub cut: bool,
 }
 
 pub fn coords_text(coords: &[i16]) -> String {
@@ -597,7 +597,7 @@ impl Edges {
         Edges::of(fonts)
     }
 
-    fn of(fonts: Vec<Vec<Asked>>) -> Self {
+    pub fn of(fonts: Vec<Vec<Asked>>) -> Self {
         let fonts: Vec<Asked> = fonts.into_iter().flatten().collect();
         let mut all = vec![];
         for (k, asked) in fonts.iter().enumerate() {

@@ -51,7 +51,7 @@ pub struct Case {
     coords: Vec<i16>,
 }
 
-fn number(kind: Kind, word: &str) -> Option<u32> {
+pub fn number(kind: Kind, word: &str) -> Option<u32> {
     match kind {
         Tag => text::bits(word),
         Offset => u32::try_from(text::natural(word)?).ok(),
@@ -99,6 +99,16 @@ fn raw(delta: Option<Fixed>, float: f32) -> Option<Rust> {
 }
 
 impl Case {
+    /// A delta's, by its name.
+    pub fn new(name: &'static str, font: &[u8], numbers: &[u32], coords: &[i16]) -> Self {
+        Case {
+            name,
+            font: font.to_vec(),
+            numbers: numbers.to_vec(),
+            coords: coords.to_vec(),
+        }
+    }
+
     /// The line that it is.
     fn line(&self) -> String {
         let (_, kinds) = FUNCTIONS
@@ -199,7 +209,7 @@ impl Case {
         matches!(self.name, "advance_delta" | "sb_delta" | "mvar_delta")
     }
 
-    fn text(&self, said: &Answer<Vec<i64>>) -> String {
+    pub fn text(&self, said: &Answer<Vec<i64>>) -> String {
         match said {
             Ok(numbers) if self.is_float() => value(format!("{:08x}", to_f32(numbers[0] as i128))),
             Ok(numbers) => {

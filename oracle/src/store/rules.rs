@@ -78,9 +78,99 @@ pub const UNCOUNTED: Rows = Rows {
     outside: false,
 };
 
-/// Order: offset 0; subtable count; outer; region list offset; axis count, region count; subtable
-/// offset; region index count; word count; refusal 5; item count; inner. For each region index in
-/// turn: read it, refuse 3 if too large, walk the region's triples, then read the entry.
+/// A store's list of regions: where the first one's triples are, and its two counts.
+pub struct Regions {
+    start: usize,
+    axis_count: usize,
+    pub count: usize,
+}
+
+impl Regions {
+    /// Order: the list's offset, axis count, region count.
+    pub fn of(font: &[u8], store: usize) -> Answer<Self> {
+        let list = store + place(font, store + 2, 4)?;
+        Ok(Regions {
+            axis_count: place(font, list, 2)?,
+            count: place(font, list + 2, 2)?,
+            start: list + 4,
+        })
+    }
+
+    pub fn scalar(&self, font: &[u8], region: usize, coords: &[i16]) -> Answer<i128> {
+        let triples = self.start + 6 * self.axis_count * region;
+        scalar(font, triples, self.axis_count, coords)
+    }
+}
+
+/// A row, with the regions that its indices lead to.
+pub struct Row {
+    pub regions: Regions,
+    indices: usize,
+    index_count: usize,
+    word_count: usize,
+    entries: usize,
+}
+
+impl Row {
+    /// Order: offset 0; subtable count; outer; region list offset; axis count, region count; subtable
+    /// offset; region index count; word count; refusal 5; item count; inner.
+    pub fn of(
+        font: &[u8],
+        store: usize,
+        outer: usize,
+        inner: usize,
+        rows: &mut Rows,
+    ) -> Answer<Self> {
+        if store == 0 {
+            return Err(1);
+        }
+        let subtable_count = place(font, store + 6, 2)?;
+        if outer >= subtable_count {
+            return Err(3);
+        }
+        let regions = Regions::of(font, store)?;
+        let subtable = store + place(font, store + 8 + 4 * outer, 4)?;
+        let index_count = place(font, subtable + 4, 2)?;
+        let word_count = place(font, subtable + 2, 2)?;
+        if word_count > index_count {
+            return Err(5);
+        }
+        if inner >= place(font, subtable, 2)? {
+            rows.outside = true;
+            if rows.counted {
+                return Err(3);
+            }
+        }
+        let indices = subtable + 6;
+        Ok(Row {
+            regions,
+            indices,
+            index_count,
+            word_count,
+            entries: indices + 2 * index_count + inner * (index_count + word_count),
+        })
+    }
+
+    /// For each region index in turn: read it, refuse 3 if too large, have the region's scalar, then read
+    /// the entry.
+    pub fn sum(&self, font: &[u8], scalar: impl Fn(usize) -> Answer<i128>) -> Answer<i64> {
+        let mut entry = self.entries;
+        let mut sum = 0;
+        for k in 0..self.index_count {
+            let region = place(font, self.indices + 2 * k, 2)?;
+            if region >= self.regions.count {
+                return Err(3);
+            }
+            let scalar = scalar(region)?;
+            let size = if k < self.word_count { 2 } else { 1 };
+            sum += scalar * signed(font, entry, size)?;
+            entry += size;
+        }
+        Ok(wrap32(sum))
+    }
+}
+
+/// The row, and its sum with each region's triples walked.
 pub fn item(
     font: &[u8],
     store: usize,
@@ -89,43 +179,8 @@ pub fn item(
     coords: &[i16],
     rows: &mut Rows,
 ) -> Answer<i64> {
-    if store == 0 {
-        return Err(1);
-    }
-    let subtable_count = place(font, store + 6, 2)?;
-    if outer >= subtable_count {
-        return Err(3);
-    }
-    let regions = store + place(font, store + 2, 4)?;
-    let axis_count = place(font, regions, 2)?;
-    let region_count = place(font, regions + 2, 2)?;
-    let subtable = store + place(font, store + 8 + 4 * outer, 4)?;
-    let index_count = place(font, subtable + 4, 2)?;
-    let word_count = place(font, subtable + 2, 2)?;
-    if word_count > index_count {
-        return Err(5);
-    }
-    if inner >= place(font, subtable, 2)? {
-        rows.outside = true;
-        if rows.counted {
-            return Err(3);
-        }
-    }
-    let indices = subtable + 6;
-    let mut entry = indices + 2 * index_count + inner * (index_count + word_count);
-    let mut sum = 0;
-    for k in 0..index_count {
-        let region = place(font, indices + 2 * k, 2)?;
-        if region >= region_count {
-            return Err(3);
-        }
-        let triples = regions + 4 + 6 * axis_count * region;
-        let scalar = scalar(font, triples, axis_count, coords)?;
-        let size = if k < word_count { 2 } else { 1 };
-        sum += scalar * signed(font, entry, size)?;
-        entry += size;
-    }
-    Ok(wrap32(sum))
+    let row = Row::of(font, store, outer, inner, rows)?;
+    row.sum(font, |region| row.regions.scalar(font, region, coords))
 }
 
 /// Where a table's map offset is.
@@ -135,16 +190,8 @@ pub enum Map {
     Bearing = 12,
 }
 
-/// Order: base 0, store offset, its 0, its sum with base, map offset, its 0, format, count, count 0,
-/// entry, then the store's.
-pub fn metric(
-    font: &[u8],
-    base: usize,
-    map: Map,
-    glyph: usize,
-    coords: &[i16],
-    rows: &mut Rows,
-) -> Answer<i64> {
+/// Where the store of the table at base is. Order: base 0, store offset, its 0, its sum with base.
+pub fn store_of(font: &[u8], base: usize) -> Answer<usize> {
     if base == 0 {
         return Err(1);
     }
@@ -155,6 +202,18 @@ pub fn metric(
     if store + base >= 1 << 32 {
         return Err(5);
     }
+    Ok(store + base)
+}
+
+/// The store, and a glyph's outer and inner index. Order: the store's; map offset, its 0, format, count,
+/// count 0, entry.
+pub fn glyph_item(
+    font: &[u8],
+    base: usize,
+    map: Map,
+    glyph: usize,
+) -> Answer<(usize, usize, usize)> {
+    let store = store_of(font, base)?;
     let offset = place(font, base + map as usize, 4)?;
     if offset == 0 && map == Map::Bearing {
         return Err(1);
@@ -163,7 +222,19 @@ pub fn metric(
         0 => (0, glyph),
         _ => map_entry(font, base + offset, glyph)?,
     };
-    item(font, store + base, outer, inner, coords, rows)
+    Ok((store, outer, inner))
+}
+
+pub fn metric(
+    font: &[u8],
+    base: usize,
+    map: Map,
+    glyph: usize,
+    coords: &[i16],
+    rows: &mut Rows,
+) -> Answer<i64> {
+    let (store, outer, inner) = glyph_item(font, base, map, glyph)?;
+    item(font, store, outer, inner, coords, rows)
 }
 
 /// A glyph's outer and inner index, by the map at p. A glyph at or past the count uses the last
@@ -181,7 +252,8 @@ fn map_entry(font: &[u8], p: usize, glyph: usize) -> Answer<(usize, usize)> {
 }
 
 pub struct Mvar<'a> {
-    part: &'a [u8],
+    /// the font from its start on
+    pub part: &'a [u8],
     pub record_size: usize,
     pub record_count: usize,
     pub store: usize,
@@ -202,8 +274,30 @@ pub fn open(font: &[u8], offset: usize) -> Answer<Mvar<'_>> {
     Ok(mvar)
 }
 
-/// Search from l = 0, h = count, middle floor((l + h) / 2); the record has its inner index at 4, its
-/// outer index at 6.
+impl Mvar<'_> {
+    /// A tag's outer and inner index. Search from l = 0, h = count, middle floor((l + h) / 2); the record
+    /// has its inner index at 4, its outer index at 6.
+    pub fn item(&self, tag: u32) -> Answer<(usize, usize)> {
+        let (mut l, mut h) = (0, self.record_count);
+        while l < h {
+            let middle = (l + h) / 2;
+            let record = 12 + middle * self.record_size;
+            let found = unsigned(self.part, record, 4)?;
+            if found == tag as i128 {
+                let inner = place(self.part, record + 4, 2)?;
+                let outer = place(self.part, record + 6, 2)?;
+                return Ok((outer, inner));
+            }
+            if (tag as i128) < found {
+                h = middle;
+            } else {
+                l = middle + 1;
+            }
+        }
+        Err(4)
+    }
+}
+
 pub fn tag_delta(
     font: &[u8],
     offset: usize,
@@ -212,21 +306,6 @@ pub fn tag_delta(
     rows: &mut Rows,
 ) -> Answer<i64> {
     let mvar = open(font, offset)?;
-    let (mut l, mut h) = (0, mvar.record_count);
-    while l < h {
-        let middle = (l + h) / 2;
-        let record = 12 + middle * mvar.record_size;
-        let found = unsigned(mvar.part, record, 4)?;
-        if found == tag as i128 {
-            let inner = place(mvar.part, record + 4, 2)?;
-            let outer = place(mvar.part, record + 6, 2)?;
-            return item(mvar.part, mvar.store, outer, inner, coords, rows);
-        }
-        if (tag as i128) < found {
-            h = middle;
-        } else {
-            l = middle + 1;
-        }
-    }
-    Err(4)
+    let (outer, inner) = mvar.item(tag)?;
+    item(mvar.part, mvar.store, outer, inner, coords, rows)
 }

@@ -89,7 +89,7 @@ uint8_t suolluvik_store_offset(const uint8_t *font, size_t font_len, uint32_t xv
 
 /* The offset of the store of the MVAR at the offset mvar, from where that MVAR starts, as all offsets of an MVAR are: its list is
  * filled with the part of the font from there on, font + mvar and font_len - mvar. Refused by 2, else by 1 where there are no
- * records or no store; where it is not, mvar is at most font_len. An mvar of 0 is opened like any other. */
+ * records or no store; where it is not refused, mvar is at most font_len. An mvar of 0 is opened like any other. */
 uint8_t suolluvik_mvar_store_offset(const uint8_t *font, size_t font_len, uint32_t mvar, uint32_t *value);
 
 /* Fills a list for the store at the offset `store`: each region's scalar, from 0 to 65536, or -1 where its record runs out

@@ -1,15 +1,15 @@
 -- What a store has before a row, by the tests that stand for its reads: of several that refuse alike and stand behind one another, the last is tested. Assumes nothing.
 use Prim.Native.Nat.{ℕ, _+_, _*_, _≤_, _<_}
-use mathlib.Core.Path.{_≡_, refl, ap, sym, _∙_}
-use mathlib.Core.Bool.{true, not}
+use mathlib.Core.Path.{_≡_, ap, sym}
+use mathlib.Core.Bool.{not}
 use mathlib.Core.List.{List}
 use native.Mathlib.Omega.{arith}
 use borrow.Author.Tests.{eq-eqb, ne-eqb, le-leb, lt-leb, lt-ltb, le-ltb}
 use lib.Dec.{leb, ltb}
 use lib.IntN.{ℤ}
 use lib.ListN.{length}
-use Rattle.readers.specs.Outcome.{Outcome, value, refused}
-use Rattle.readers.specs.Reading.{Reading, answer, _>>=_, _>>_, check, unsignedAt, bigEndian, run}
+use Rattle.readers.specs.Outcome.{Outcome, refused}
+use Rattle.readers.specs.Reading.{Reading, _>>=_, _>>_, check, unsignedAt, bigEndian, run}
 use Rattle.readers.proofs.Bytes.{present, missing}
 use Rattle.readers.proofs.Passed.{cut-later}
 use Rattle.readers.proofs.Reading.{passed, failed}

@@ -1,5 +1,5 @@
 -- Where the delta of a measure is, by the tests that stand for the reads: of several that refuse alike and stand behind one another, the last is tested. Assumes nothing.
-use Prim.Native.Nat.{ℕ, _+_, _-_, _*_, _/_, _%_, _^_, _≤_, _<_, min}
+use Prim.Native.Nat.{ℕ, _+_, _-_, _*_, _/_, _%_, _≤_, _<_, min}
 use mathlib.Core.Path.{_≡_, ap, sym}
 use mathlib.Core.Bool.{not}
 use mathlib.Core.List.{List}
@@ -7,7 +7,7 @@ use native.Mathlib.Omega.{arith}
 use borrow.Author.Tests.{eq-eqb, ne-eqb}
 use lib.ListN.{length}
 use Rattle.readers.specs.Outcome.{Outcome, value, refused}
-use Rattle.readers.specs.Reading.{Reading, answer, _>>=_, unsignedAt, bigEndian, run}
+use Rattle.readers.specs.Reading.{answer, _>>=_, unsignedAt, bigEndian, run}
 use Rattle.readers.proofs.Bytes.{present, missing}
 use Rattle.readers.proofs.Passed.{cut-later}
 use Rattle.readers.proofs.Reading.{passed, failed, answered}

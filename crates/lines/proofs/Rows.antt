@@ -4,7 +4,7 @@ use mathlib.Core.Path.{_≡_, refl, ap, sym, _∙_}
 use mathlib.Core.Bool.{Bool, true, false, cond}
 use mathlib.Core.List.{List}
 use native.Mathlib.Omega.{arith}
-use borrow.Author.Tests.{lt-ltb, le-ltb, ltb-true, ltb-false}
+use borrow.Author.Tests.{lt-ltb, le-ltb, ltb-true}
 use lib.Dec.{ltb}
 use lib.IntN.{ℤ, pos, negsuc, _+ℤ_, _*ℤ_}
 use lib.ListN.{length, getD}
@@ -15,7 +15,7 @@ use Rattle.numbers.specs.Numbers.{wrap32}
 use Rattle.readers.specs.Outcome.{Outcome, value, refused}
 use Rattle.readers.specs.Reading.{Reading, answer, refuse, _>>=_, unsignedAt, signedAt, bigEndian, run}
 use Rattle.readers.proofs.Bytes.{present, missing, first}
-use Rattle.readers.proofs.Reading.{took-by, stop-by, passed, failed, answered, declined}
+use Rattle.readers.proofs.Reading.{took-by, passed, failed, answered, declined}
 use Rattle.opentype.specs.Item.{Row, regionIndexAt, deltaAt, rowTurn}
 use Rattle.opentype.specs.Lines.{known, scalarFrom}
 use Rattle.lines.specs.LinesAnswers.{entryEnd}

@@ -1,12 +1,11 @@
 -- Numbers of several bytes, by those of fewer. Assumes nothing.
-use Prim.Native.Nat.{ℕ, zero, suc, _+_, _-_, _*_, _/_, _%_, _^_, _≤_, _<_}
-use mathlib.Core.Path.{_≡_, refl, ap, sym, _∙_}
+use Prim.Native.Nat.{ℕ, zero, suc, _+_, _-_, _*_, _/_, _^_, _≤_, _<_}
+use mathlib.Core.Path.{_≡_, ap, _∙_}
 use mathlib.Core.List.{List}
 use native.Mathlib.Omega.{arith}
 use lib.Bits.{bitAnd, and-mask}
 use lib.ListN.{getD}
 use Rattle.readers.specs.Reading.{bigEndian}
-use Rattle.readers.proofs.Bytes.{below}
 
 module _ (font : List ℕ) where
   byte : (i j : ℕ) → i ≡ j → getD font i 0 ≡ getD font j 0

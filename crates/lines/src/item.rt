@@ -10,7 +10,7 @@ ghost use Prim.Native.Nat.{_+_, _*_, _^_, _<_, _≤_};
 ghost use lib.ListN.{length};
 ghost use Rattle.readers.specs.Outcome.{value};
 ghost use Rattle.readers.specs.Reading.{run};
-ghost use Rattle.readers.specs.Answers.{outcomeI16, outcomeFixed};
+ghost use Rattle.readers.specs.Answers.{outcomeFixed};
 ghost use Rattle.opentype.specs.Item.{deltaAt, rowSum};
 ghost use Rattle.opentype.specs.Lines.{scalarFrom, itemDeltaWith};
 ghost use Rattle.lines.specs.LinesAnswers.{rowFrom, entryEnd};

@@ -13,7 +13,7 @@ use store::metric::float_of;
 use store::metric::map_field;
 use store::metric::store_of;
 ghost use mathlib.Core.Path.{_≡_};
-ghost use Prim.Native.Nat.{_-_, _≤_, min};
+ghost use Prim.Native.Nat.{min};
 ghost use Rattle.readers.specs.Reading.{run};
 ghost use Rattle.readers.specs.Answers.{outcomeFixed};
 ghost use Rattle.opentype.specs.Metric.{advance, bearing, floatOf};
@@ -53,6 +53,7 @@ fn place_in(font: &[u8], base: u32, measure: Measure, glyph_id: u16) -> PlaceAns
         return PlaceAnswer::Refused(Refusal::Arithmetic);
     }
     let index = least(glyph_id, count - 1) as usize;
+    // the entry's bytes behind its first
     let more = format / 16 % 4;
     let last = map + 4 + ((more as usize) + 1) * index + (more as usize);
     if font.len() <= last {

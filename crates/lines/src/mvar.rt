@@ -4,14 +4,12 @@ use readers::FixedAnswer;
 use readers::Half;
 use readers::Refusal;
 use readers::u16_at;
-use store::metric::float_of;
 use store::mvar::Found;
 use store::mvar::HeaderAnswer;
 use store::mvar::find;
 use store::mvar::mvar_header;
 ghost use mathlib.Core.Path.{_≡_};
 ghost use Rattle.readers.specs.Answers.{outcome16, outcomeFixed};
-ghost use Rattle.opentype.specs.Metric.{floatOf};
 ghost use Rattle.opentype.specs.Lines.{mvarStore, mvarDeltaWith};
 
 // The offset of the store from the start of the MVAR at an offset of the font.
@@ -24,7 +22,7 @@ pub fn mvar_store(font: &[u8], mvar: u32) -> Half
     }
 }
 
-// The delta of a tag by the MVAR at an offset of the font, as an answer and as a float.
+// The delta of a tag by the MVAR at an offset of the font.
 pub fn mvar_delta_with(font: &[u8], mvar: u32, tag: u32, scalars: &[i32]) -> FixedAnswer
     ensures { λ r. ⌜ outcomeFixed r ≡ mvarDeltaWith (now (font .entry)) mvar tag (now (scalars .entry)) ⌝ }
 {

@@ -4,14 +4,14 @@ use mathlib.Core.Path.{_≡_, refl}
 use mathlib.Core.List.{List, [], _∷_, _++_}
 use lib.IntN.{ℤ, pos, negsuc}
 use lib.ListN.{take, drop}
-use Rattle.readers.specs.Outcome.{Outcome, value, refused}
+use Rattle.readers.specs.Outcome.{value, refused}
 use Rattle.readers.specs.Reading.{run}
 use Rattle.readers.specs.Lent.{fill}
 use Rattle.opentype.specs.Item.{itemDelta}
-use Rattle.opentype.specs.Metric.{advance, bearing, storeOf, metricDelta}
+use Rattle.opentype.specs.Metric.{advance, bearing, storeOf}
 use Rattle.opentype.specs.Mvar.{mvarDelta}
 use Rattle.opentype.specs.Lines.{keptScalar, roomFor, fillCount, filled, itemSumWith, deltaWith, itemDeltaWith, metricDeltaWith, mvarStore, mvarDeltaWith}
-use Rattle.opentype.proofs.DeltaTable.{computing, hvar, with-byte, h1-font, two-maps}
+use Rattle.opentype.proofs.DeltaTable.{hvar, with-byte, h1-font, two-maps}
 use Rattle.opentype.proofs.MvarTable.{opening, sorted, hasc, xhgt}
 
 -- What an example unfolds beside what those of the store and of MVAR do.
@@ -95,6 +95,22 @@ pub subtable-count-not-read : fillCount (hvar ++ (0 ∷ 1 ∷ 0 ∷ 0 ∷ 0 ∷ 
 unfolding lining
 subtable-count-not-read = refl
 
+-- One axis and two regions, 0 1 1 and 0 1/2 1; a row 1 and 2 of both.
+abbrev one-axis : List ℕ
+one-axis =
+    hvar
+    ++ (0 ∷ 1 ∷ 0 ∷ 0 ∷ 0 ∷ 12 ∷ 0 ∷ 1 ∷ 0 ∷ 0 ∷ 0 ∷ 28
+    ∷ 0 ∷ 1 ∷ 0 ∷ 2 ∷ 0 ∷ 0 ∷ 0x40 ∷ 0 ∷ 0x40 ∷ 0 ∷ 0 ∷ 0 ∷ 0x20 ∷ 0 ∷ 0x40 ∷ 0
+    ∷ 0 ∷ 1 ∷ 0 ∷ 0 ∷ 0 ∷ 2 ∷ 0 ∷ 0 ∷ 0 ∷ 1 ∷ 1 ∷ 2
+    ∷ [])
+
+-- Regions are counted, not axes.
+pub more-regions-than-axes : (filled one-axis 20 (pos 0x1000 ∷ []) (pos 7 ∷ pos 7 ∷ pos 7 ∷ []) ≡ pos 16384 ∷ pos 32768 ∷ pos 7 ∷ [])
+    × (itemDeltaWith one-axis 20 0 0 (pos 5 ∷ []) ≡ refused 7)
+    × (itemDeltaWith one-axis 20 0 0 (pos 5 ∷ pos 6 ∷ []) ≡ value (pos 17))
+unfolding lining
+more-regions-than-axes = (refl, refl, refl)
+
 -- A region with no axes has the scalar 1, whatever the coordinates; the list has a place for it all the same, at filling and at reading.
 pub no-axes : (coords : List ℤ) → (filled h1-font 28 coords (pos 7 ∷ []) ≡ pos 65536 ∷ []) × (fillCount h1-font 28 0 ≡ refused 7) × (itemDeltaWith h1-font 28 0 0 [] ≡ refused 7)
 unfolding lining h1-font
@@ -113,20 +129,31 @@ pub as-at-the-coordinates : (itemDeltaWith ending 20 0 0 left-outside ≡ value 
 unfolding lining
 as-at-the-coordinates = (refl, refl, refl, refl, refl, refl, refl)
 
--- 7 for a short list, also where no region is named: after 1, 3, 2 and 5, and inner's 3; before the first region index, whatever that is.
+-- A font with one row of region 0, of which the entry is missing; and the same without the index.
+abbrev no-entry : List ℕ
+no-entry = hvar ++ (0 ∷ 1 ∷ 0 ∷ 0 ∷ 0 ∷ 12 ∷ 0 ∷ 1 ∷ 0 ∷ 0 ∷ 0 ∷ 16 ∷ 0 ∷ 0 ∷ 0 ∷ 1 ∷ 0 ∷ 1 ∷ 0 ∷ 0 ∷ 0 ∷ 1 ∷ 0 ∷ 0 ∷ [])
+
+abbrev no-index : List ℕ
+no-index = take 42 no-entry
+
+-- 7 for a short list, also where no region is named: after 1, 3, 2 and 5, and inner's 3; before the first region index, be it too large or cut, and before the row.
 pub short-list : (itemDeltaWith ending 20 2 0 (pos 0 ∷ []) ≡ refused 7)
     × (itemDeltaWith ending 20 2 0 (pos 0 ∷ pos 0 ∷ []) ≡ value (pos 0))
     × (itemDeltaWith ending 20 0 0 (pos 1 ∷ []) ≡ refused 7)
-    × (itemDeltaWith ending 20 4 0 [] ≡ refused 7)
+    × (itemDeltaWith (with-byte 55 2 ending) 20 0 0 [] ≡ refused 7)
+    × (itemDeltaWith (with-byte 55 2 ending) 20 0 0 (pos 0 ∷ pos 0 ∷ []) ≡ refused 3)
+    × (itemDeltaWith no-index 20 0 0 [] ≡ refused 7)
+    × (itemDeltaWith no-index 20 0 0 (pos 0 ∷ []) ≡ refused 2)
+    × (itemDeltaWith no-entry 20 0 0 [] ≡ refused 7)
     × (itemDeltaWith (take 60 ending) 20 0 0 [] ≡ refused 2)
     × (itemDeltaWith ending 0 0 0 [] ≡ refused 1)
     × (itemDeltaWith ending 20 5 0 [] ≡ refused 3)
     × (itemDeltaWith ending 20 3 0 [] ≡ refused 5)
     × (itemDeltaWith ending 20 2 1 [] ≡ refused 3)
 unfolding lining
-short-list = (refl, refl, refl, refl, refl, refl, refl, refl, refl)
+short-list = (refl, refl, refl, refl, refl, refl, refl, refl, refl, refl, refl, refl, refl)
 
--- "A −1 that is named" is refusal 2, before its entry and before the next index; one that is not named harms nobody.
+-- A −1 that is named is refusal 2, before the next index is read; one that is not named harms nobody.
 pub marked : (itemDeltaWith ending 20 0 0 (negsuc 0 ∷ pos 0 ∷ []) ≡ refused 2)
     × (itemDeltaWith ending 20 4 0 (negsuc 0 ∷ pos 0 ∷ []) ≡ refused 2)
     × (itemDeltaWith ending 20 4 0 (pos 1 ∷ pos 0 ∷ []) ≡ refused 3)
@@ -149,7 +176,7 @@ unfolding lining
 any-number = (refl, refl, refl, refl, refl)
 
 -- An entry is read where the scalar is 0, too: 2 where the row is cut.
-pub cut-row : (itemDeltaWith (hvar ++ (0 ∷ 1 ∷ 0 ∷ 0 ∷ 0 ∷ 12 ∷ 0 ∷ 1 ∷ 0 ∷ 0 ∷ 0 ∷ 16 ∷ 0 ∷ 0 ∷ 0 ∷ 1 ∷ 0 ∷ 1 ∷ 0 ∷ 0 ∷ 0 ∷ 1 ∷ 0 ∷ 0 ∷ [])) 20 0 0 (pos 0 ∷ []) ≡ refused 2)
+pub cut-row : itemDeltaWith no-entry 20 0 0 (pos 0 ∷ []) ≡ refused 2
 unfolding lining
 cut-row = refl
 
@@ -161,12 +188,13 @@ pub of-a-glyph : (run ending (storeOf 4) ≡ value 20)
     × (metricDeltaWith ending 4 advance 2 run-out ≡ refused 3)
     × (metricDeltaWith ending 4 bearing 0 [] ≡ refused 1)
     × (metricDeltaWith ending 0 advance 0 [] ≡ refused 1)
+    × (metricDeltaWith ending 0 bearing 0 [] ≡ refused 1)
     × (metricDeltaWith ending 4 advance 0 [] ≡ refused 7)
     × (metricDeltaWith two-maps 4 advance 1 (pos 65536 ∷ []) ≡ value (pos 720896))
     × (metricDeltaWith two-maps 4 advance 9 (pos 2 ∷ []) ≡ value (pos 24))
     × (metricDeltaWith two-maps 4 bearing 0 (pos 65536 ∷ []) ≡ value (pos 786432))
 unfolding lining
-of-a-glyph = (refl, refl, refl, refl, refl, refl, refl, refl, refl)
+of-a-glyph = (refl, refl, refl, refl, refl, refl, refl, refl, refl, refl)
 
 -- Where the store is: 1, 2, 1, 5.
 pub store-found : (run ending (storeOf 0) ≡ refused 1)

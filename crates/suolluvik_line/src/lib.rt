@@ -1,5 +1,5 @@
-// What a line of type calls: filling, once, and the float of an advance, at each glyph (W-204). They are compiled by themselves, beside the rest of the library: so all that they call is drawn into them,
-// and what filling shares with a delta at coordinates stays drawn into that.
+// What a line of type calls: filling, once, and the float of an advance, at each glyph (W-204). They are compiled by themselves, beside the rest of the library: so that what they call is drawn into them, but
+// for a row's loop, and what filling shares with a delta at coordinates stays drawn into that.
 use lines::filling::fill_scalars;
 use lines::metric::advance_delta_fixed_with;
 use suolluvik::counts::count_value;

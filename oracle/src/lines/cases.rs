@@ -419,8 +419,7 @@ fn edges() -> Edges {
     ])
 }
 
-/// How many regions the store of a case has, by the rules, and of a case that fills it the store and the part of
-/// the font in which it counts.
+/// Where the store of a delta is, by the rules, and the part of the font in which its positions count.
 fn store_in(case: &Case) -> Option<(&[u8], usize)> {
     let (font, offset) = (&case.font[..], case.numbers[0] as usize);
     match case.asked {

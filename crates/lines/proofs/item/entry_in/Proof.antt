@@ -1,6 +1,6 @@
 -- `lines::item::entry_in` meets its contract. Assumes nothing.
 use Prim.Native.Nat.{_+_, _^_}
-use mathlib.Core.Path.{_≡_, ap, _∙_}
+use mathlib.Core.Path.{ap, _∙_}
 use native.Mathlib.Omega.{arith}
 use borrow.Author.Tests.{lt-ltb, le-ltb}
 use lib.IntN.{ℤ}

@@ -1,6 +1,5 @@
 -- `lines::metric::metric_delta_with` meets its contract. Assumes nothing.
-use mathlib.Core.Path.{refl, ap, sym, _∙_}
-use Rattle.readers.specs.Outcome.{onward}
+use mathlib.Core.Path.{refl, _∙_}
 use Rattle.readers.specs.Reading.{run}
 use Rattle.readers.proofs.Outcome.{onward-by, halt-by}
 use Rattle.opentype.specs.Lines.{deltaWith, itemDeltaWith, metricDeltaWith}

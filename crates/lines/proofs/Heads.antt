@@ -17,6 +17,29 @@ use Rattle.opentype.specs.Item.{Regions, regionList, Row, rowAt, itemAt, rowSum
 use Rattle.opentype.specs.Lines.{scalarFrom, itemSumWith, deltaWith, itemDeltaWith}
 use Rattle.lines.specs.LinesAnswers.{regionsAt, rowFrom}
 
+-- The store's head and its region list are there, and the outer index is below the count of the subtables; offset is the list's.
+pub record Listed (font : List ℕ) (store outer : ℕ) : Type 0 where
+  pub some : store ≡ 0 → ⊥
+  pub head : store + 8 ≤ length font
+  pub count : ℕ
+  pub counted : count ≡ bigEndian 2 font (store + 6)
+  pub named : outer < count
+  pub offset : ℕ
+  pub listed : offset ≡ bigEndian 4 font (store + 2)
+  pub list : store + offset + 4 ≤ length font
+
+-- And the subtable's head, at place from the store, with two of its counts.
+pub record Subtable (font : List ℕ) (store outer : ℕ) : Type 0 where
+  pub regions : Listed font store outer
+  pub offsets : store + 8 + 4 * outer + 4 ≤ length font
+  pub place : ℕ
+  pub found : place ≡ bigEndian 4 font (store + 8 + 4 * outer)
+  pub there : store + place + 6 ≤ length font
+  pub indexes : ℕ
+  pub words : ℕ
+  pub many : indexes ≡ bigEndian 2 font (store + place + 4)
+  pub wide : words ≡ bigEndian 2 font (store + place + 2)
+
 module _ (font : List ℕ) (store outer inner : ℕ) (scalars : List ℤ) where
   abbrev delta : Outcome ℤ
   delta = itemDeltaWith font store outer inner scalars
@@ -30,7 +53,6 @@ module _ (font : List ℕ) (store outer inner : ℕ) (scalars : List ℤ) where
     unfolding itemDeltaWith deltaWith itemAt unsignedAt
     head-cut h = passed font _ 1 _ _ (ap not (ne-eqb store 0 some)) (missing 2 font (store + 6) _ (omega arith))
 
-    -- The six bytes from store + 2 on are there: count is that of the subtables, offset the region list's.
     module _ (head : store + 8 ≤ length font) (count : ℕ) (counted : count ≡ bigEndian 2 font (store + 6)) where
       pub outer-large : count ≤ outer → refused 3 ≡ delta
       unfolding itemDeltaWith deltaWith itemAt unsignedAt
@@ -38,11 +60,8 @@ module _ (font : List ℕ) (store outer inner : ℕ) (scalars : List ℤ) where
 
       module _ (named : outer < count) (offset : ℕ) (listed : offset ≡ bigEndian 4 font (store + 2)) where
         -- What is left once the region list's offset is known.
-        abbrev regions : ℕ → ℕ → Regions
-        regions axisCount regionCount = regionsAt store offset axisCount regionCount
-
         abbrev rowOf : ℕ → ℕ → Reading ℤ
-        rowOf axisCount regionCount = rowAt store outer inner >>= λ row. itemSumWith scalars (record { regions = regions axisCount regionCount; row = row })
+        rowOf axisCount regionCount = rowAt store outer inner >>= λ row. itemSumWith scalars (record { regions = regionsAt store offset axisCount regionCount; row = row })
 
         fromList : (w : Outcome ℤ) → w ≡ run font (unsignedAt 2 (store + offset) >>= λ axisCount. unsignedAt 2 (store + offset + 2) >>= λ regionCount. rowOf axisCount regionCount) → w ≡ delta
         unfolding itemDeltaWith deltaWith itemAt regionList rowAt unsignedAt
@@ -56,56 +75,57 @@ module _ (font : List ℕ) (store outer inner : ℕ) (scalars : List ℤ) where
         unfolding unsignedAt
         list-cut h = fromList _ (sym (cut-later font 2 (store + offset) _ (λ axisCount. sym (missing 2 font (store + offset + 2) _ (omega arith)))))
 
-        module _ (list : store + offset + 4 ≤ length font) (regionCount : ℕ) (regional : regionCount ≡ bigEndian 2 font (store + offset + 2)) where
-          fromRow : (w : Outcome ℤ) → w ≡ run font (rowOf (bigEndian 2 font (store + offset)) regionCount) → w ≡ delta
-          unfolding unsignedAt
-          fromRow w e = fromList w (present 2 font (store + offset) _ _ (omega arith) (present 2 font (store + offset + 2) _ _ (omega arith) (rw (← regional) e)))
+  module _ (l : Listed font store outer) (regionCount : ℕ) (regional : regionCount ≡ bigEndian 2 font (store + l .offset + 2)) where
+    abbrev regions : Regions
+    regions = regionsAt store (l .offset) (bigEndian 2 font (store + l .offset)) regionCount
 
-          pub offset-cut : length font < store + 8 + 4 * outer + 4 → refused 2 ≡ delta
-          unfolding rowAt unsignedAt
-          offset-cut h = fromRow _ (missing 4 font (store + 8 + 4 * outer) _ h)
+    fromRow : (w : Outcome ℤ) → w ≡ run font (rowAt store outer inner >>= λ row. itemSumWith scalars (record { regions = regions; row = row })) → w ≡ delta
+    unfolding unsignedAt
+    fromRow w e =
+        let there = l .list in
+        fromList (l .some) (l .head) (l .count) (l .counted) (l .named) (l .offset) (l .listed) w
+        (present 2 font (store + l .offset) _ _ (omega arith) (present 2 font (store + l .offset + 2) _ _ (omega arith) (rw (← regional) e)))
 
-          module _ (offsets : store + 8 + 4 * outer + 4 ≤ length font) (place : ℕ) (found : place ≡ bigEndian 4 font (store + 8 + 4 * outer)) where
-            pub subtable-cut : length font < store + place + 6 → refused 2 ≡ delta
-            unfolding rowAt unsignedAt
-            subtable-cut h = fromRow _ (present 4 font (store + 8 + 4 * outer) _ _ offsets (rw (← found) (missing 2 font (store + place + 4) _ (omega arith))))
+    pub offset-cut : length font < store + 8 + 4 * outer + 4 → refused 2 ≡ delta
+    unfolding rowAt unsignedAt
+    offset-cut h = fromRow _ (missing 4 font (store + 8 + 4 * outer) _ h)
 
-            module _ (subtable : store + place + 6 ≤ length font) (indexes words : ℕ) (many : indexes ≡ bigEndian 2 font (store + place + 4)) (wide : words ≡ bigEndian 2 font (store + place + 2)) where
-              abbrev row : Row
-              row = rowFrom (store + place + 6) indexes words (store + place + 6 + 2 * indexes + inner * (indexes + words))
+    pub subtable-cut : (place : ℕ) → store + 8 + 4 * outer + 4 ≤ length font → place ≡ bigEndian 4 font (store + 8 + 4 * outer) → length font < store + place + 6 → refused 2 ≡ delta
+    unfolding rowAt unsignedAt
+    subtable-cut place offsets found h = fromRow _ (present 4 font (store + 8 + 4 * outer) _ _ offsets (rw (← found) (missing 2 font (store + place + 4) _ (omega arith))))
 
-              -- What is left once the two counts are known.
-              abbrev counted-row : Reading ℤ
-              counted-row = do
-                check (leb words indexes) 5
-                items ← unsignedAt 2 (store + place)
-                check (ltb inner items) 3
-                itemSumWith scalars (record { regions = regions (bigEndian 2 font (store + offset)) regionCount; row = row })
+  module _ (s : Subtable font store outer) (regionCount : ℕ) (regional : regionCount ≡ bigEndian 2 font (store + s .regions .offset + 2)) where
+    abbrev row : Row
+    row = rowFrom (store + s .place + 6) (s .indexes) (s .words) (store + s .place + 6 + 2 * s .indexes + inner * (s .indexes + s .words))
 
-              fromCounts : (w : Outcome ℤ) → w ≡ run font counted-row → w ≡ delta
-              unfolding rowAt unsignedAt
-              fromCounts w e =
-                  fromRow _
-                  (present 4 font (store + 8 + 4 * outer) _ _ offsets
-                  (rw (← found) (present 2 font (store + place + 4) _ _ (omega arith)
-                  (rw (← many) (present 2 font (store + place + 2) _ _ (omega arith) (rw (← wide) e))))))
+    abbrev summed-row : Reading ℤ
+    summed-row = itemSumWith scalars (record { regions = regions (s .regions) regionCount regional; row = row })
 
-              pub words-many : indexes < words → refused 5 ≡ delta
-              words-many h = fromCounts _ (failed font _ 5 _ (lt-leb words indexes h))
+    -- What is left once the two counts are known.
+    fromCounts : (w : Outcome ℤ) → w ≡ run font (check (leb (s .words) (s .indexes)) 5 >> (unsignedAt 2 (store + s .place) >>= λ items. check (ltb inner items) 3 >> summed-row)) → w ≡ delta
+    unfolding rowAt unsignedAt
+    fromCounts w e =
+        let there = s .there in
+        fromRow (s .regions) regionCount regional _
+        (present 4 font (store + 8 + 4 * outer) _ _ (s .offsets)
+        (rw (← s .found) (present 2 font (store + s .place + 4) _ _ (omega arith)
+        (rw (← s .many) (present 2 font (store + s .place + 2) _ _ (omega arith) (rw (← s .wide) e))))))
 
-              module _ (few : words ≤ indexes) (items : ℕ) (rows : items ≡ bigEndian 2 font (store + place)) where
-                pub inner-large : items ≤ inner → refused 3 ≡ delta
-                unfolding unsignedAt
-                inner-large h = fromCounts _ (passed font _ 5 _ _ (le-leb words indexes few) (present 2 font (store + place) _ _ (omega arith) (rw (← rows) (failed font _ 3 _ (le-ltb inner items h)))))
+    pub words-many : s .indexes < s .words → refused 5 ≡ delta
+    words-many h = fromCounts _ (failed font _ 5 _ (lt-leb (s .words) (s .indexes) h))
 
-                fromItem : (w : Outcome ℤ) → inner < items → w ≡ run font (itemSumWith scalars (record { regions = regions (bigEndian 2 font (store + offset)) regionCount; row = row })) → w ≡ delta
-                unfolding unsignedAt
-                fromItem w h e = fromCounts _ (passed font _ 5 _ _ (le-leb words indexes few) (present 2 font (store + place) _ _ (omega arith) (rw (← rows) (passed font _ 3 _ _ (lt-ltb inner items h) e))))
+    module _ (few : s .words ≤ s .indexes) (items : ℕ) (rows : items ≡ bigEndian 2 font (store + s .place)) where
+      fromItems : (w : Outcome ℤ) → w ≡ run font (check (ltb inner items) 3 >> summed-row) → w ≡ delta
+      unfolding unsignedAt
+      fromItems w e = let there = s .there in fromCounts _ (passed font _ 5 _ _ (le-leb (s .words) (s .indexes) few) (present 2 font (store + s .place) _ _ (omega arith) (rw (← rows) e)))
 
-                pub list-short : inner < items → length scalars < regionCount → refused 7 ≡ delta
-                unfolding itemSumWith
-                list-short h short = fromItem _ h (failed font _ 7 _ (lt-leb regionCount (length scalars) short))
+      pub inner-large : items ≤ inner → refused 3 ≡ delta
+      inner-large h = fromItems _ (failed font _ 3 _ (le-ltb inner items h))
 
-                pub summed : (w : Outcome ℤ) → inner < items → regionCount ≤ length scalars → w ≡ run font (rowSum (scalarFrom scalars) regionCount row) → w ≡ delta
-                unfolding itemSumWith
-                summed w h room e = fromItem _ h (passed font _ 7 _ _ (le-leb regionCount (length scalars) room) e)
+      pub list-short : inner < items → length scalars < regionCount → refused 7 ≡ delta
+      unfolding itemSumWith
+      list-short h short = fromItems _ (passed font _ 3 _ _ (lt-ltb inner items h) (failed font _ 7 _ (lt-leb regionCount (length scalars) short)))
+
+      pub summed : (w : Outcome ℤ) → inner < items → regionCount ≤ length scalars → w ≡ run font (rowSum (scalarFrom scalars) regionCount row) → w ≡ delta
+      unfolding itemSumWith
+      summed w h room e = fromItems _ (passed font _ 3 _ _ (lt-ltb inner items h) (passed font _ 7 _ _ (le-leb regionCount (length scalars) room) e))

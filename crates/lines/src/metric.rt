@@ -20,6 +20,12 @@ ghost use Rattle.opentype.specs.Metric.{advance, bearing, floatOf};
 ghost use Rattle.opentype.specs.Lines.{metricDeltaWith};
 ghost use Rattle.store.specs.MetricAnswers.{measureOf, placeOf, placeOutcome};
 
+fn least(a: u16, b: u16) -> u16
+    ensures { λ r. ⌜ r ≡ min a b ⌝ }
+{
+    if a < b { a } else { b }
+}
+
 // Where the HVAR or VVAR at base has the delta of a glyph's measure.
 fn place_in(font: &[u8], base: u32, measure: Measure, glyph_id: u16) -> PlaceAnswer
     ensures { λ r. ⌜ placeOutcome r ≡ run (now (font .entry)) (placeOf base (measureOf measure) «glyph_id») ⌝ }
@@ -66,12 +72,6 @@ fn place_in(font: &[u8], base: u32, measure: Measure, glyph_id: u16) -> PlaceAns
         outer: (entry >> bits) % 0x1_0000,
         inner: (entry & ((1 << bits) - 1)) as u16,
     })
-}
-
-fn least(a: u16, b: u16) -> u16
-    ensures { λ r. ⌜ r ≡ min a b ⌝ }
-{
-    if a < b { a } else { b }
 }
 
 // The delta of a glyph's measure, by the HVAR or VVAR at base.

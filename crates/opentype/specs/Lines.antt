@@ -47,7 +47,7 @@ known (negsuc zero) = refuse 2
 known (negsuc (suc n)) = answer (negsuc (suc n))
 known (pos n) = answer (pos n)
 
--- The scalar of a region, from the list.
+-- The scalar of a region, from the list, which is looked at where a row names the region: "an unreadable region that no row names must harm nobody".
 abbrev pub scalarFrom : List ℤ → ℕ → Reading ℤ
 scalarFrom scalars region = known (getD scalars region (pos 0))
 
@@ -57,7 +57,7 @@ itemSumWith scalars item = do
   check (leb (item .regions .regionCount) (length scalars)) 7
   rowSum (scalarFrom scalars) (item .regions .regionCount) (item .row)
 
--- The delta of a delta-set index, in 16.16.
+-- The delta of a delta-set index, in 16.16: it "is lent the list and is given no coordinates".
 unfoldable pub deltaWith : List ℤ → ℕ → ℕ → ℕ → Reading ℤ
 deltaWith scalars store outer inner = do
   item ← itemAt store outer inner

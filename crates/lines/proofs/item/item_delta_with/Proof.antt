@@ -3,10 +3,42 @@ use Prim.Native.Nat.{_+_, _*_, _≤_}
 use mathlib.Core.Path.{refl}
 use native.Mathlib.Nat.{mul-le-mul}
 use native.Mathlib.Omega.{arith}
-use Rattle.lines.proofs.Heads.{no-store, head-cut, outer-large, list-cut, offset-cut, subtable-cut, words-many, inner-large, list-short, summed}
+use Rattle.lines.proofs.Heads.{Listed, Subtable, no-store, head-cut, outer-large, list-cut, offset-cut, subtable-cut, words-many, inner-large, list-short, summed}
 use borrow.Author.Needs.{needs}
 use Rattle.lines.proofs.item.item_delta_with.Statement.{statement}
 use Rattle.lines.proofs.item.item_delta_with.Tie as tie
+
+-- What the tests have shown, up to the region list and up to the subtable's counts.
+abbrev listed : (c : tie.Else4) → let a = c .before .before .before .before .before .before .before .args in Listed (a .font .now) (a .store) (a .outer)
+listed c =
+    let named = c .before .before in
+    let head = named .before .before in
+    record {
+      some = head .before .if1 .left;
+      head = head .if2 .left;
+      count = named .before .half-in .result;
+      counted = named .before .half-in .ensures;
+      named = named .if3 .left;
+      offset = c .before .word-in .result;
+      listed = c .before .word-in .ensures;
+      list = c .if4 .left;
+    }
+
+abbrev subtable : (c : tie.After-half-in3) → let a = c .before .before .before .before .before .before .before .before .before .before .before .before .args in Subtable (a .font .now) (a .store) (a .outer)
+subtable c =
+    let there = c .before .before in
+    let offsets = there .before .before in
+    record {
+      regions = listed (offsets .before);
+      offsets = offsets .if5 .left;
+      place = there .before .word-in2 .result;
+      found = there .before .word-in2 .ensures;
+      there = there .if6 .left;
+      indexes = c .before .half-in2 .result;
+      words = c .half-in3 .result;
+      many = c .before .half-in2 .ensures;
+      wide = c .half-in3 .ensures;
+    }
 
 -- The row's product, so that no position wraps.
 row-small : (c : tie.Else9)
@@ -34,10 +66,8 @@ cast-if3 c = search needs
 
 returns-3 : tie.Need-returns-3
 returns-3 c =
-    let count = c .before in
-    let head = count .before in
-    let some = head .before in
-    outer-large _ _ _ _ _ (some .if1 .left) (head .if2 .left) _ (count .half-in .ensures) (c .if3 .taken)
+    let head = c .before .before in
+    outer-large _ _ _ _ _ (head .before .if1 .left) (head .if2 .left) _ (c .before .half-in .ensures) (c .if3 .taken)
 
 add-word-in : tie.Need-add-word-in
 add-word-in c = search needs
@@ -56,12 +86,9 @@ add-if4 c = search needs
 
 returns-4 : tie.Need-returns-4
 returns-4 c =
-    let offset = c .before in
-    let named = offset .before in
-    let count = named .before in
-    let head = count .before in
-    let some = head .before in
-    list-cut _ _ _ _ _ (some .if1 .left) (head .if2 .left) _ (count .half-in .ensures) (named .if3 .left) _ (offset .word-in .ensures) (c .if4 .taken)
+    let named = c .before .before in
+    let head = named .before .before in
+    list-cut _ _ _ _ _ (head .before .if1 .left) (head .if2 .left) _ (named .before .half-in .ensures) (named .if3 .left) _ (c .before .word-in .ensures) (c .if4 .taken)
 
 add-at : tie.Need-add-at
 add-at c = search needs
@@ -76,14 +103,7 @@ add-if5 : tie.Need-add-if5
 add-if5 c = search needs
 
 returns-5 : tie.Need-returns-5
-returns-5 c =
-    let list = c .before in
-    let offset = list .before in
-    let named = offset .before in
-    let count = named .before in
-    let head = count .before in
-    let some = head .before in
-    offset-cut _ _ _ _ _ (some .if1 .left) (head .if2 .left) _ (count .half-in .ensures) (named .if3 .left) _ (offset .word-in .ensures) (list .if4 .left) _ refl (c .if5 .taken)
+returns-5 c = offset-cut _ _ _ _ _ (listed (c .before)) _ refl (c .if5 .taken)
 
 word-in-requires-2 : tie.Need-word-in-requires-2
 word-in-requires-2 c κs = search needs
@@ -99,15 +119,8 @@ add-if6 c = search needs
 
 returns-6 : tie.Need-returns-6
 returns-6 c =
-    let place = c .before in
-    let offsets = place .before in
-    let list = offsets .before in
-    let offset = list .before in
-    let named = offset .before in
-    let count = named .before in
-    let head = count .before in
-    let some = head .before in
-    subtable-cut _ _ _ _ _ (some .if1 .left) (head .if2 .left) _ (count .half-in .ensures) (named .if3 .left) _ (offset .word-in .ensures) (list .if4 .left) _ refl (offsets .if5 .left) _ (place .word-in2 .ensures) (c .if6 .taken)
+    let offsets = c .before .before in
+    subtable-cut _ _ _ _ _ (listed (offsets .before)) _ refl _ (offsets .if5 .left) (c .before .word-in2 .ensures) (c .if6 .taken)
 
 add-half-in-2 : tie.Need-add-half-in-2
 add-half-in-2 c = search needs
@@ -122,39 +135,15 @@ half-in-requires-3 : tie.Need-half-in-requires-3
 half-in-requires-3 c κs = search needs
 
 returns-7 : tie.Need-returns-7
-returns-7 c =
-    let words = c .before in
-    let many = words .before in
-    let subtable = many .before in
-    let place = subtable .before in
-    let offsets = place .before in
-    let list = offsets .before in
-    let offset = list .before in
-    let named = offset .before in
-    let count = named .before in
-    let head = count .before in
-    let some = head .before in
-    words-many _ _ _ _ _ (some .if1 .left) (head .if2 .left) _ (count .half-in .ensures) (named .if3 .left) _ (offset .word-in .ensures) (list .if4 .left) _ refl (offsets .if5 .left) _ (place .word-in2 .ensures) (subtable .if6 .left) _ _ (many .half-in2 .ensures) (words .half-in3 .ensures) (c .if7 .taken)
+returns-7 c = words-many _ _ _ _ _ (subtable (c .before)) _ refl (c .if7 .taken)
 
 half-in-requires-4 : tie.Need-half-in-requires-4
 half-in-requires-4 c κs = search needs
 
 returns-8 : tie.Need-returns-8
 returns-8 c =
-    let items = c .before in
-    let few = items .before in
-    let words = few .before in
-    let many = words .before in
-    let subtable = many .before in
-    let place = subtable .before in
-    let offsets = place .before in
-    let list = offsets .before in
-    let offset = list .before in
-    let named = offset .before in
-    let count = named .before in
-    let head = count .before in
-    let some = head .before in
-    inner-large _ _ _ _ _ (some .if1 .left) (head .if2 .left) _ (count .half-in .ensures) (named .if3 .left) _ (offset .word-in .ensures) (list .if4 .left) _ refl (offsets .if5 .left) _ (place .word-in2 .ensures) (subtable .if6 .left) _ _ (many .half-in2 .ensures) (words .half-in3 .ensures) (few .if7 .left) _ (items .half-in4 .ensures) (c .if8 .taken)
+    let few = c .before .before in
+    inner-large _ _ _ _ _ (subtable (few .before)) _ refl (few .if7 .left) _ (c .before .half-in4 .ensures) (c .if8 .taken)
 
 add-half-in-4 : tie.Need-add-half-in-4
 add-half-in-4 c = search needs
@@ -167,22 +156,9 @@ cast-if9 c = search needs
 
 returns-9 : tie.Need-returns-9
 returns-9 c =
-    let regional = c .before in
-    let row = regional .before in
-    let items = row .before in
-    let few = items .before in
-    let words = few .before in
-    let many = words .before in
-    let subtable = many .before in
-    let place = subtable .before in
-    let offsets = place .before in
-    let list = offsets .before in
-    let offset = list .before in
-    let named = offset .before in
-    let count = named .before in
-    let head = count .before in
-    let some = head .before in
-    list-short _ _ _ _ _ (some .if1 .left) (head .if2 .left) _ (count .half-in .ensures) (named .if3 .left) _ (offset .word-in .ensures) (list .if4 .left) _ (regional .half-in5 .ensures) (offsets .if5 .left) _ (place .word-in2 .ensures) (subtable .if6 .left) _ _ (many .half-in2 .ensures) (words .half-in3 .ensures) (few .if7 .left) _ (items .half-in4 .ensures) (row .if8 .left) (c .if9 .taken)
+    let row = c .before .before in
+    let few = row .before .before in
+    list-short _ _ _ _ _ (subtable (few .before)) _ (c .before .half-in5 .ensures) (few .if7 .left) _ (row .before .half-in4 .ensures) (row .if8 .left) (c .if9 .taken)
 
 add-indexes : tie.Need-add-indexes
 add-indexes c = search needs
@@ -229,22 +205,9 @@ cut-row-requires c κs = (omega arith, (omega arith, omega (arith, row-small (c 
 returns-10 : tie.Need-returns-10
 returns-10 c =
     let room = c .before .before in
-    let regional = room .before in
-    let row = regional .before in
-    let items = row .before in
-    let few = items .before in
-    let words = few .before in
-    let many = words .before in
-    let subtable = many .before in
-    let place = subtable .before in
-    let offsets = place .before in
-    let list = offsets .before in
-    let offset = list .before in
-    let named = offset .before in
-    let count = named .before in
-    let head = count .before in
-    let some = head .before in
-    summed _ _ _ _ _ (some .if1 .left) (head .if2 .left) _ (count .half-in .ensures) (named .if3 .left) _ (offset .word-in .ensures) (list .if4 .left) _ (regional .half-in5 .ensures) (offsets .if5 .left) _ (place .word-in2 .ensures) (subtable .if6 .left) _ _ (many .half-in2 .ensures) (words .half-in3 .ensures) (few .if7 .left) _ (items .half-in4 .ensures) _ (row .if8 .left) (room .if9 .left) (c .cut-row .ensures)
+    let row = room .before .before in
+    let few = row .before .before in
+    summed _ _ _ _ _ (subtable (few .before)) _ (room .before .half-in5 .ensures) (few .if7 .left) _ (row .before .half-in4 .ensures) _ (row .if8 .left) (room .if9 .left) (c .cut-row .ensures)
 
 whole-row-requires : tie.Need-whole-row-requires
 whole-row-requires c κs = search needs
@@ -252,22 +215,9 @@ whole-row-requires c κs = search needs
 returns-11 : tie.Need-returns-11
 returns-11 c =
     let room = c .before .before in
-    let regional = room .before in
-    let row = regional .before in
-    let items = row .before in
-    let few = items .before in
-    let words = few .before in
-    let many = words .before in
-    let subtable = many .before in
-    let place = subtable .before in
-    let offsets = place .before in
-    let list = offsets .before in
-    let offset = list .before in
-    let named = offset .before in
-    let count = named .before in
-    let head = count .before in
-    let some = head .before in
-    summed _ _ _ _ _ (some .if1 .left) (head .if2 .left) _ (count .half-in .ensures) (named .if3 .left) _ (offset .word-in .ensures) (list .if4 .left) _ (regional .half-in5 .ensures) (offsets .if5 .left) _ (place .word-in2 .ensures) (subtable .if6 .left) _ _ (many .half-in2 .ensures) (words .half-in3 .ensures) (few .if7 .left) _ (items .half-in4 .ensures) _ (row .if8 .left) (room .if9 .left) (c .whole-row .ensures)
+    let row = room .before .before in
+    let few = row .before .before in
+    summed _ _ _ _ _ (subtable (few .before)) _ (room .before .half-in5 .ensures) (few .if7 .left) _ (row .before .half-in4 .ensures) _ (row .if8 .left) (room .if9 .left) (c .whole-row .ensures)
 
 pub item-delta-with-spec : {M : Type 1} → statement M
 item-delta-with-spec =

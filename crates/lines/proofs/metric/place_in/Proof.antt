@@ -4,12 +4,45 @@ use mathlib.Core.Path.{_≡_, refl}
 use native.Mathlib.Omega.{arith}
 use Rattle.readers.specs.Answers.{outcome32}
 use Rattle.readers.proofs.Reading.{took-by, stop-by, answered, declined}
-use Rattle.store.specs.MetricAnswers.{placeOf}
+use Rattle.readers.specs.Outcome.{Outcome}
+use Rattle.readers.specs.Reading.{run}
+use Rattle.store.specs.MetricAnswers.{Place, measureOf, placeOf}
 use Rattle.store.proofs.Entries.{entry-near, shifted-positive, low-bits, low-bits-small}
-use Rattle.lines.proofs.PlaceLaws.{field-cut, no-map, map-cut, map-empty, entry-cut, entered}
+use Rattle.lines.proofs.PlaceLaws.{Field, Mapped, place, field-cut, no-map, map-cut, map-empty, entry-cut, entered}
 use borrow.Author.Needs.{needs}
 use Rattle.lines.proofs.metric.place_in.Statement.{statement}
 use Rattle.lines.proofs.metric.place_in.Tie as tie
+
+-- The store is known: what is left is the place in it.
+stored : (c : tie.After-map-field)
+    → let a = c .before .before .before .before .before .before .args in
+    (w : Outcome Place) → w ≡ place (a .font .now) (a .base) (measureOf (a .measure)) (a .glyph-id) (c .before .before .x .given .0 .0)
+    → w ≡ run (a .font .now) (placeOf (a .base) (measureOf (a .measure)) (a .glyph-id))
+unfolding placeOf
+stored c w e = took-by outcome32 _ _ _ _ (c .before .before .before .before .store-of .ensures) (c .before .before .x .given .1) refl e
+
+-- What the tests have shown, up to the map's offset and up to its count.
+abbrev field : (c : tie.After-word-in) → let a = c .before .before .before .before .before .before .before .before .args in Field (a .font .now) (a .base) (measureOf (a .measure))
+field c =
+    let told = c .before .before .map-field .ensures .0 in
+    record { there = rw told at (c .before .if1 .left); offset = c .word-in .result; is = rw told at (c .word-in .ensures) }
+
+abbrev mapped : (c : tie.After-half-in2) → let a = c .before .before .before .before .before .before .before .before .before .before .before .before .args in Mapped (a .font .now) (a .base) (measureOf (a .measure))
+mapped c =
+    let head = c .before .before in
+    record {
+      field = field (head .before .before);
+      some = head .before .if2 .left;
+      head = head .if3 .left;
+      format = c .before .half-in .result;
+      count = c .half-in2 .result;
+      formed = c .before .half-in .ensures;
+      counted = c .half-in2 .ensures;
+    }
+
+-- Where the measure's field was asked for, before the map's count was read.
+abbrev read : tie.After-half-in2 → tie.After-map-field
+read c = c .before .before .before .before .before .before
 
 -- How far the entry is from the first, so that no position wraps.
 near : (c : tie.After-least) → (c .before .before .before .half-in .result / 16 % 4 + 1) * c .least .result < 2 ^ 18
@@ -38,14 +71,9 @@ add-if1 : tie.Need-add-if1
 add-if1 c = search needs
 
 returns-2 : tie.Need-returns-2
-unfolding placeOf
 returns-2 c =
-    let field = c .before in
-    let told = field .before in
-    let stored = told .before in
-    let so = stored .before .before in
-    took-by outcome32 _ _ _ _ (so .store-of .ensures) (stored .x .given .1) refl
-    (field-cut _ _ _ _ _ (rw (field .map-field .ensures .0) at (c .if1 .taken)))
+    let told = c .before in
+    stored told _ (field-cut _ _ _ _ _ (rw (told .map-field .ensures .0) at (c .if1 .taken)))
 
 word-in-requires : tie.Need-word-in-requires
 word-in-requires c κs = search needs
@@ -57,30 +85,14 @@ enum-told-2 : tie.Need-enum-told-2
 enum-told-2 c = search needs
 
 returns-3 : tie.Need-returns-3
-unfolding placeOf
 returns-3 c =
     let none = c .before .before in
-    let offset = none .before in
-    let room = offset .before in
-    let field = room .before in
-    let told = field .before in
-    let stored = told .before in
-    let so = stored .before .before in
-    took-by outcome32 _ _ _ _ (so .store-of .ensures) (stored .x .given .1) refl
-    (no-map _ _ _ _ _ (rw (field .map-field .ensures .0) at (room .if1 .left)) _ (rw (field .map-field .ensures .0) at (offset .word-in .ensures)) _ (none .if2 .taken) (rw (c .enum-told .given .1) (answered _ _)))
+    stored (none .before .before .before) _ (no-map _ _ _ _ _ (field (none .before)) _ (none .if2 .taken) (rw (c .enum-told .given .1) (answered _ _)))
 
 returns-4 : tie.Need-returns-4
-unfolding placeOf
 returns-4 c =
     let none = c .before .before in
-    let offset = none .before in
-    let room = offset .before in
-    let field = room .before in
-    let told = field .before in
-    let stored = told .before in
-    let so = stored .before .before in
-    took-by outcome32 _ _ _ _ (so .store-of .ensures) (stored .x .given .1) refl
-    (no-map _ _ _ _ _ (rw (field .map-field .ensures .0) at (room .if1 .left)) _ (rw (field .map-field .ensures .0) at (offset .word-in .ensures)) _ (none .if2 .taken) (rw (c .enum-told2 .given .1) (declined _ _)))
+    stored (none .before .before .before) _ (no-map _ _ _ _ _ (field (none .before)) _ (none .if2 .taken) (rw (c .enum-told2 .given .1) (declined _ _)))
 
 cast-map : tie.Need-cast-map
 cast-map c = search needs
@@ -92,17 +104,9 @@ add-if3 : tie.Need-add-if3
 add-if3 c = search needs
 
 returns-5 : tie.Need-returns-5
-unfolding placeOf
 returns-5 c =
     let some = c .before in
-    let offset = some .before in
-    let room = offset .before in
-    let field = room .before in
-    let told = field .before in
-    let stored = told .before in
-    let so = stored .before .before in
-    took-by outcome32 _ _ _ _ (so .store-of .ensures) (stored .x .given .1) refl
-    (map-cut _ _ _ _ _ (rw (field .map-field .ensures .0) at (room .if1 .left)) _ (rw (field .map-field .ensures .0) at (offset .word-in .ensures)) (some .if2 .left) (c .if3 .taken))
+    stored (some .before .before .before) _ (map-cut _ _ _ _ _ (field (some .before)) (some .if2 .left) (c .if3 .taken))
 
 half-in-requires : tie.Need-half-in-requires
 half-in-requires c κs = search needs
@@ -114,20 +118,9 @@ half-in-requires-2 : tie.Need-half-in-requires-2
 half-in-requires-2 c κs = search needs
 
 returns-6 : tie.Need-returns-6
-unfolding placeOf
 returns-6 c =
     let count = c .before in
-    let format = count .before in
-    let head = format .before in
-    let some = head .before in
-    let offset = some .before in
-    let room = offset .before in
-    let field = room .before in
-    let told = field .before in
-    let stored = told .before in
-    let so = stored .before .before in
-    took-by outcome32 _ _ _ _ (so .store-of .ensures) (stored .x .given .1) refl
-    (map-empty _ _ _ _ _ (rw (field .map-field .ensures .0) at (room .if1 .left)) _ (rw (field .map-field .ensures .0) at (offset .word-in .ensures)) (some .if2 .left) (head .if3 .left) _ _ (format .half-in .ensures) (count .half-in2 .ensures) (c .if4 .taken))
+    stored (read count) _ (map-empty _ _ _ _ _ (mapped count) (c .if4 .taken))
 
 sub-least : tie.Need-sub-least
 sub-least c = search needs
@@ -160,23 +153,11 @@ add-last-4 : tie.Need-add-last-4
 add-last-4 c = omega (arith, near c)
 
 returns-7 : tie.Need-returns-7
-unfolding placeOf
 returns-7 c =
     let index = c .before in
-    let full = index .before in
-    let count = full .before in
-    let format = count .before in
-    let head = format .before in
-    let some = head .before in
-    let offset = some .before in
-    let room = offset .before in
-    let field = room .before in
-    let told = field .before in
-    let stored = told .before in
-    let so = stored .before .before in
+    let count = index .before .before in
     let cut = rw (index .least .ensures) at (c .if5 .taken) in
-    took-by outcome32 _ _ _ _ (so .store-of .ensures) (stored .x .given .1) refl
-    (entry-cut _ _ _ _ _ (rw (field .map-field .ensures .0) at (room .if1 .left)) _ (rw (field .map-field .ensures .0) at (offset .word-in .ensures)) (some .if2 .left) (head .if3 .left) _ _ (format .half-in .ensures) (count .half-in2 .ensures) (full .if4 .left) (omega (arith, cut)))
+    stored (read count) _ (entry-cut _ _ _ _ _ (mapped count) (index .before .if4 .left) (omega (arith, cut)))
 
 ending-in-requires : tie.Need-ending-in-requires
 ending-in-requires c κs = search needs
@@ -200,27 +181,16 @@ cast-t29 : tie.Need-cast-t29
 cast-t29 c = record { fits = low-bits-small (c .ending-in .result) (c .before .before .before .before .before .half-in .result % 16 + 1) (omega arith) }
 
 returns-8 : tie.Need-returns-8
-unfolding placeOf
 returns-8 c =
-    let whole = c .before in
-    let index = whole .before in
-    let full = index .before in
-    let count = full .before in
-    let format = count .before in
-    let head = format .before in
-    let some = head .before in
-    let offset = some .before in
-    let room = offset .before in
-    let field = room .before in
-    let told = field .before in
-    let stored = told .before in
-    let so = stored .before .before in
-    let there = rw (index .least .ensures) at (whole .if5 .left) in
-    let first = so .before .before .args .base + offset .word-in .result + 4 + (format .half-in .result / 16 % 4 + 1) * index .least .result in
-    let back : first + format .half-in .result / 16 % 4 - format .half-in .result / 16 % 4 ≡ first = omega arith in
-    took-by outcome32 _ _ _ _ (so .store-of .ensures) (stored .x .given .1) refl
-    (rw (low-bits (c .ending-in .result) (format .half-in .result % 16 + 1) (omega arith), c .ending-in .ensures, back, index .least .ensures)
-    (entered _ _ _ _ _ (rw (field .map-field .ensures .0) at (room .if1 .left)) _ (rw (field .map-field .ensures .0) at (offset .word-in .ensures)) (some .if2 .left) (head .if3 .left) _ _ (format .half-in .ensures) (count .half-in2 .ensures) (full .if4 .left) (omega (arith, there))))
+    let index = c .before .before in
+    let count = index .before .before in
+    let m = mapped count in
+    let there = rw (index .least .ensures) at (c .before .if5 .left) in
+    let first = read count .before .before .before .before .before .before .args .base + m .field .offset + 4 + (m .format / 16 % 4 + 1) * index .least .result in
+    let back : first + m .format / 16 % 4 - m .format / 16 % 4 ≡ first = omega arith in
+    stored (read count) _
+    (rw (low-bits (c .ending-in .result) (m .format % 16 + 1) (omega arith), c .ending-in .ensures, back, index .least .ensures)
+    (entered _ _ _ _ _ m (index .before .if4 .left) (omega (arith, there))))
 
 pub place-in-spec : {M : Type 1} → statement M
 place-in-spec =

@@ -5,6 +5,7 @@ use Prim.Native.Nat.{ℕ}
 use lib.ListN.{take}
 use lib.IntN.{ℤ, pos, negsuc}
 use lib.Ieee.{Float}
+use Rattle.numbers.specs.Numbers.{wrap32, over, timesOver}
 use Rattle.readers.specs.Outcome.{value, refused}
 use Rattle.readers.specs.Reading.{run, unsignedAt}
 use Rattle.opentype.specs.Fvar.{absent, named}
@@ -44,6 +45,10 @@ two = float 0x4000_0000
 -- Three places that hold 7.
 abbrev sevens : List ℤ
 sevens = pos 7 ∷ pos 7 ∷ pos 7 ∷ []
+
+-- -2^31.
+abbrev least : ℤ
+least = negative 2147483648
 
 pub record Requests : Type 0 where
   -- A row outside the item count is an index that is too large: refusal 3, after 5.
@@ -153,12 +158,37 @@ pub record Requests : Type 0 where
       × (mvarStore sorted 2 ≡ value 28)
       × (mvarDeltaWith sorted 2 hasc mvar-list ≡ mvarDelta sorted 2 hasc (pos 0x2000 ∷ []))
       × (mvarDelta sorted 2 hasc (pos 0x2000 ∷ []) ≡ value (pos 655360))
+  -- Division by shifting and subtracting: "Nothing that anyone can see may change." What a routine of 32 steps, or without the first bit, would change.
+  pub W-205 :
+      -- A quotient of 48 bits, of 47, of 32 and of 33, of which the low 32 are kept.
+      (over least (pos 1) ≡ pos 0)
+      × (over (pos 2147483647) (pos 1) ≡ negative 65536)
+      × (over (pos 32768) (pos 1) ≡ least)
+      × (over (pos 65536) (pos 1) ≡ pos 0)
+      -- 17 bits, of which the first alone is 1; the same by the largest divisor; none.
+      × (over (pos 3) (pos 3) ≡ pos 65536)
+      × (over least least ≡ pos 65536)
+      × (over (pos 1) least ≡ pos 0)
+      -- 65536 over 131071, 131072 and 131073: more than a half, a half, less.
+      × (over (pos 1) (pos 131071) ≡ pos 1)
+      × (over (pos 1) (pos 131072) ≡ pos 1)
+      × (over (pos 1) (pos 131073) ≡ pos 0)
+      -- The largest numerator, 2^62, by 1, by 3, by 2^31 - 1 and by 2^31.
+      × (timesOver least least (pos 1) ≡ pos 0)
+      × (timesOver least least (pos 3) ≡ pos 1431655765)
+      × (timesOver least least (pos 2147483647) ≡ negative 2147483647)
+      × (timesOver least least least ≡ least)
+      -- By 0, which is tested first.
+      × (over (pos 0) (pos 0) ≡ pos 2147483647)
+      × (over least (pos 0) ≡ negative 2147483647)
+      × (timesOver least least (pos 0) ≡ pos 2147483647)
 
 pub requests : Requests
-unfolding computing-measures s5-font itemDelta uncountedRow uncountedItem uncountedDelta reading footing adjustedFootprint computing-instances lining
+unfolding computing-measures s5-font itemDelta uncountedRow uncountedItem uncountedDelta reading footing adjustedFootprint computing-instances lining over timesOver wrap32
 requests = record {
   W-201 = λ coords. (refl, refl, refl, refl, refl, refl, refl, refl, refl, refl, refl, refl, refl, refl, refl);
   W-202 = (refl, refl, refl, refl, refl, refl, refl, refl, refl, refl, refl, refl, refl, refl, refl, refl, refl, refl, refl, refl, refl, refl);
   W-203 = (refl, refl, refl, refl, refl, refl, refl, refl, refl, refl, refl, refl);
   W-204 = (refl, refl, refl, refl, refl, refl, refl, refl, refl, refl, refl, refl, refl, refl, refl, refl, refl, refl, refl, refl, refl, refl, refl, refl);
+  W-205 = (refl, refl, refl, refl, refl, refl, refl, refl, refl, refl, refl, refl, refl, refl, refl, refl, refl);
 }

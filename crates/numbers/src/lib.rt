@@ -1,7 +1,9 @@
 // The 16.16 and 2.14 numbers (swash's fixed.rs).
 // A number is passed whole: what computes with it goes through its methods, of which `to_bits`, `from_f2dot14`, `to_f32` and `lt` open it.
+ghost use mathlib.Core.Bool.{cond};
 ghost use mathlib.Core.Path.{_≡_};
-ghost use Prim.Native.Nat.{_^_, _≤_, min};
+ghost use Prim.Native.Nat.{_+_, _-_, _*_, _/_, _^_, _≤_, _<_, min};
+ghost use lib.Dec.{ltb};
 ghost use lib.IntN.{natAbs};
 ghost use lib.Ieee.{toSigned};
 ghost use lib.Signed.{ltZ};
@@ -239,7 +241,75 @@ fn nearest_quotient(n: u64, d: u64) -> u64
     if d == 0 {
         return 0x7fff_ffff;
     }
-    (n + d / 2) / d % 0x1_0000_0000
+    whole_quotient(n + d / 2, d) % 0x1_0000_0000
+}
+
+// n / d, rounded down, by shifting and subtracting (W-205). By a power of two, as most sides of a region are, it is one shift.
+fn whole_quotient(n: u64, d: u64) -> u64
+    requires { ⌜ n < 2 ^ 63 ⌝ }
+    requires { ⌜ 0 < d ⌝ }
+    ensures { λ r. ⌜ r ≡ n / d ⌝ }
+{
+    let top = top_bit(d);
+    if d == 1u64 << top {
+        return n >> top;
+    }
+    if n < d {
+        return 0;
+    }
+    long_quotient(n, d, top_bit(n) - top)
+}
+
+// The place of the highest bit that is 1.
+fn top_bit(n: u64) -> u32
+    requires { ⌜ 0 < n ⌝ }
+    ensures { λ r. ⌜ (2 ^ r ≤ n) × (n < 2 ^ (r + 1)) × (r < 64) ⌝ }
+{
+    63 - u64::leading_zeros(n)
+}
+
+// The quotient has a bit for each place that d is shifted up to lie beside n, and one before them, `first`. What is left of n and, below it, the bits found so far
+// stand in one word; `take` is the shifted divisor less the 1 that each of its subtractions puts in. Four bits a turn: so large, the compiler leaves it one function.
+fn long_quotient(n: u64, d: u64, shift: u32) -> u64
+    requires { ⌜ 0 < d ⌝ }
+    requires { ⌜ d * 2 ^ shift < 2 ^ 63 ⌝ }
+    requires { ⌜ n < 2 * (d * 2 ^ shift) ⌝ }
+    ensures { λ r. ⌜ r ≡ n / d ⌝ }
+{
+    let unit = 1u64 << shift;
+    let take = ((d - 1) << shift) + (unit - 1);
+    let mut word = n;
+    let mut first = 0u64;
+    if n > take {
+        word = n - take - 1;
+        first = unit;
+    }
+    if shift % 2 == 1 {
+        word = next_bit(word, take);
+    }
+    if shift / 2 % 2 == 1 {
+        word = next_bit(next_bit(word, take), take);
+    }
+    let mut turns = shift / 4;
+    while turns > 0 {
+        word = next_bit(next_bit(next_bit(next_bit(word, take), take), take), take);
+        turns -= 1;
+    }
+    (word & (unit - 1)) + first
+}
+
+// The word shifted up by one bit, which is 1 where `take` can be taken from it. The sign of the difference tells, so that no branch is needed.
+fn next_bit(word: u64, take: u64) -> u64
+    requires { ⌜ word ≤ take ⌝ }
+    requires { ⌜ take < 2 ^ 63 ⌝ }
+    ensures { λ r. ⌜ (r ≡ cond (ltb (word + word) take) (word + word) (word + word - take)) × (r ≤ take) ⌝ }
+{
+    let twice = word + word;
+    let lower = std::num::wrapping_sub_u64(twice, take);
+    if lower < 0x8000_0000_0000_0000 {
+        return lower;
+    }
+    twice
 }
 
 // The whole part of the f32 with the bits n, without its sign, and at most 2^31.

@@ -285,7 +285,7 @@ fn write_all(lines: impl Iterator<Item = String>) {
 /// Fresh cases: of all subjects, one of each in turn.
 fn cases(seed: &str, count: &str, subject: &str) -> Option<Box<dyn Iterator<Item = String>>> {
     let seed = seed.parse().ok()?;
-    let numbers = numbers::cases::Cases::new(seed);
+    let numbers = numbers::cases::with_quotients(seed);
     let mut axes = axes::cases::with_avar_and_names(seed);
     let mut store = store::cases::with_counts(seed);
     let mut metrics = metrics::cases::with_counts(seed);
@@ -331,8 +331,11 @@ const SAMPLE_OF_WIDTHS: usize = 653;
 /// Lines of an instance's PostScript name id, behind these.
 const SAMPLE_OF_NAMES: usize = 326;
 
-/// Lines of scalars in a list, behind all others.
+/// Lines of scalars in a list, behind these.
 const SAMPLE_OF_LINES: usize = 750;
+
+/// Lines of quotients, behind all others.
+const SAMPLE_OF_QUOTIENTS: usize = 250;
 
 fn run(words: &[&str]) -> Option<bool> {
     match *words {
@@ -353,6 +356,7 @@ fn run(words: &[&str]) -> Option<bool> {
             write_all(widths::cases::sample(seed, SAMPLE_OF_WIDTHS).into_iter());
             write_all(axes::names::sample(seed, SAMPLE_OF_NAMES).into_iter());
             write_all(lines::cases::sample(seed, SAMPLE_OF_LINES).into_iter());
+            write_all(numbers::quotients::sample(seed, SAMPLE_OF_QUOTIENTS).into_iter());
         }
         ["answers"] => {
             let answer = |line: String| {

@@ -97,12 +97,13 @@ found-all n d first room x f =
 -- ---- the word on its way
 
 -- With k more bits the low part of the word, and the bit before it, are the quotient; and one more can be made.
-abbrev pub Going : ℕ → ℕ → ℕ → ℕ → ℕ → ℕ → ℕ → Type 0
-Going n d first shift take k x = (x ≤ take) × (withBits take k x % 2 ^ shift + first ≡ n / d)
+pub record Going (n d first shift take k x : ℕ) : Type 0 where
+  pub below : x ≤ take
+  pub gives : withBits take k x % 2 ^ shift + first ≡ n / d
 
-module _ (n d first shift take : ℕ) where
-  pub set-out : (x : ℕ) → take + 1 ≡ d * 2 ^ shift → x < d * 2 ^ shift → n ≡ first * d + x → Going n d first shift take shift x
-  set-out x e h w =
+module _ {n d first shift take : ℕ} where
+  pub set-out : {x : ℕ} → take + 1 ≡ d * 2 ^ shift → x < d * 2 ^ shift → n ≡ first * d + x → Going n d first shift take shift x
+  set-out {x} e h w =
       let f : Found x (d * 2 ^ shift) 1 x = record {
         rest = x;
         bits = 0;
@@ -111,34 +112,37 @@ module _ (n d first shift take : ℕ) where
         below = h;
         whole = omega arith;
       } in
-      let g = rw (one-mul (2 ^ shift)) at (found-bits shift x d 1 take x (omega arith) f) in
-      (omega arith, rw w (found-all x d first (2 ^ shift) (withBits take shift x) g))
+      let g = rw (one-mul (2 ^ shift)) at (found-bits shift x d 1 take x (omega arith) f) in record {
+        below = omega arith;
+        gives = rw w (found-all x d first (2 ^ shift) (withBits take shift x) g);
+      }
 
-  pub step : (k j x y : ℕ) → j ≡ suc k → Going n d first shift take j x → (y ≡ withBit take x) × (y ≤ take) → Going n d first shift take k y
-  step k j x y e g b = (b .1, rw (b .0) (rw e at (g .1)))
+  pub stay : {k j x : ℕ} → j ≡ k → Going n d first shift take j x → Going n d first shift take k x
+  stay {x = x} e g = subst (λ (z : ℕ). Going n d first shift take z x) e g
 
-  pub stay : (k j x : ℕ) → j ≡ k → Going n d first shift take j x → Going n d first shift take k x
-  stay k j x e g = subst (λ (z : ℕ). Going n d first shift take z x) e g
+  pub step : (k : ℕ) {j x y : ℕ} → j ≡ suc k → Going n d first shift take j x → (y ≡ withBit take x) × (y ≤ take) → Going n d first shift take k y
+  step k e g b = record {
+    below = b .1;
+    gives = rw (b .0) (rw e at (g .gives));
+  }
 
-  pub arrived : (k x : ℕ) → k ≡ 0 → Going n d first shift take k x → x % 2 ^ shift + first ≡ n / d
-  arrived k x e g = rw e at (g .1)
+  pub arrived : {k x : ℕ} → k ≡ 0 → Going n d first shift take k x → x % 2 ^ shift + first ≡ n / d
+  arrived e g = rw e at (g .gives)
 
 -- ---- how far the divisor is shifted
 
--- what a divisor shifted up to less than 2^63 says of the shift, and of one less than it
+-- what a divisor shifted up to less than 2^63 says of the shift
 pub record Shifted (d shift : ℕ) : Type 0 where
   pub some : 0 < 2 ^ shift
   pub near : shift < 63
-  pub fits : 2 ^ shift < 2 ^ 63
-  pub one-less : d * 2 ^ shift ≡ (d - 1) * 2 ^ shift + 2 ^ shift
+  pub least : 2 ^ shift ≤ d * 2 ^ shift
 
 pub shifted : (d shift : ℕ) → 0 < d → d * 2 ^ shift < 2 ^ 63 → Shifted d shift
 shifted d shift p h =
-    let least : d * 2 ^ shift ≡ (d - 1) * 2 ^ shift + 2 ^ shift = ap (λ (z : ℕ). z * 2 ^ shift) (omega arith) ∙ suc-mul (d - 1) (2 ^ shift) in record {
+    let least : 2 ^ shift ≤ d * 2 ^ shift = omega (arith, mul-le-mul-right {m = 1} {n = d} (2 ^ shift) p) in record {
       some = pow-pos shift;
       near = lt-of-not-le (λ (g : 63 ≤ shift). omega (arith, pow-le-pow-right {n = 2} (omega arith) {i = 63} {j = shift} g));
-      fits = omega arith;
-      one-less = least;
+      least = least;
     }
 
 -- A number and a divisor, each by the place of its highest bit: the divisor shifted up to lie beside the number.

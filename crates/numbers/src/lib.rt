@@ -268,8 +268,8 @@ fn top_bit(n: u64) -> u32
     63 - u64::leading_zeros(n)
 }
 
-// The quotient has a bit for each place that d is shifted up to lie beside n, and one before them, `first`. What is left of n and, below it, the bits found so far
-// stand in one word; `take` is the shifted divisor less the 1 that each of its subtractions puts in. Four bits a turn: so large, the compiler leaves it one function.
+// As many bits as d is shifted up to lie beside n, and one before them, `first`. What is left of n stands in a word above the bits found so far; `take` is the shifted
+// divisor less the 1 that taking it puts in below. Four bits a turn: so large, the compiler leaves it one function, where a smaller one is copied into each caller.
 fn long_quotient(n: u64, d: u64, shift: u32) -> u64
     requires { ⌜ 0 < d ⌝ }
     requires { ⌜ d * 2 ^ shift < 2 ^ 63 ⌝ }
@@ -277,13 +277,14 @@ fn long_quotient(n: u64, d: u64, shift: u32) -> u64
     ensures { λ r. ⌜ r ≡ n / d ⌝ }
 {
     let unit = 1u64 << shift;
-    let take = ((d - 1) << shift) + (unit - 1);
+    let shifted = d << shift;
     let mut word = n;
     let mut first = 0u64;
-    if n > take {
-        word = n - take - 1;
+    if n >= shifted {
+        word = n - shifted;
         first = unit;
     }
+    let take = shifted - 1;
     if shift % 2 == 1 {
         word = next_bit(word, take);
     }
@@ -298,7 +299,7 @@ fn long_quotient(n: u64, d: u64, shift: u32) -> u64
     (word & (unit - 1)) + first
 }
 
-// The word shifted up by one bit, which is 1 where `take` can be taken from it. The sign of the difference tells, so that no branch is needed.
+// The word shifted up by one place, into which a 1 comes where `take` can be taken. The sign of the difference tells: that is no branch.
 fn next_bit(word: u64, take: u64) -> u64
     requires { ⌜ word ≤ take ⌝ }
     requires { ⌜ take < 2 ^ 63 ⌝ }

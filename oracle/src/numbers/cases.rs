@@ -1,6 +1,6 @@
 //! Cases of the 16.16 arithmetic: edges and their products, and random numbers of every magnitude.
 
-use super::{Kind, FUNCTIONS};
+use super::{quotients, Kind, FUNCTIONS};
 use crate::random::Random;
 
 const MIN: i64 = -(1 << 31);
@@ -205,6 +205,16 @@ impl Iterator for Cases {
             Some(self.nth_product(turn * STRIDE % self.products))
         }
     }
+}
+
+/// Every fourth case is one of quotients.
+pub fn with_quotients(seed: u64) -> impl Iterator<Item = String> {
+    let mut others = Cases::new(seed);
+    let mut quotients = quotients::cases(seed);
+    (0..).map_while(move |turn: u64| match turn % 4 {
+        3 => quotients.next(),
+        _ => others.next(),
+    })
 }
 
 /// The examples of the rules, and the inputs where a wrong rounding, sign, range or wrap shows.

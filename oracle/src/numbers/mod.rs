@@ -1,6 +1,7 @@
 //! The cases of the 16.16 arithmetic: their text, the Rust's answer, the rules' answer.
 
 pub mod cases;
+pub mod quotients;
 pub mod rules;
 
 use crate::private::internal::fixed::{muldiv, Fixed};

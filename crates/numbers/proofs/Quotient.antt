@@ -18,7 +18,7 @@ abbrev pub withBits : ℕ → ℕ → ℕ → ℕ
 withBits take zero x = x
 withBits take (suc k) x = withBits take k (withBit take x)
 
--- a difference modulo 2^64 that is 2^63 or more is of a number below the one that is taken from it
+-- a difference modulo 2^64 that is 2^63 or more went below 0
 borrowed : (y take x : ℕ) → (y + take) % 2 ^ 64 ≡ x + x → y < 2 ^ 64 → take < 2 ^ 63 → x ≤ take → 2 ^ 63 ≤ y → x + x < take
 borrowed y take x w b l u s =
     let carried : 2 ^ 64 ≤ y + take = le-of-suc-le-suc (lt-of-not-le (λ (g : suc (y + take) ≤ 2 ^ 64). omega (arith, mod-eq-of-lt {n = y + take} {m = 2 ^ 64} g))) in

@@ -232,7 +232,7 @@ pub fn muldiv(a: Fixed, b: Fixed, c: Fixed) -> Fixed
     Fixed::with_sign(minus, q)
 }
 
-// The one place where a quotient is made.
+// n / d to the nearest, halves up, modulo 2^32; by 0 it is 2^31 - 1. The one place where a quotient is made.
 fn nearest_quotient(n: u64, d: u64) -> u64
     requires { ⌜ n ≤ 2 ^ 62 ⌝ }
     requires { ⌜ d ≤ 2 ^ 31 ⌝ }
@@ -244,7 +244,7 @@ fn nearest_quotient(n: u64, d: u64) -> u64
     whole_quotient(n + d / 2, d) % 0x1_0000_0000
 }
 
-// n / d, rounded down, by shifting and subtracting (W-205). By a power of two, as most sides of a region are, it is one shift.
+// n / d, rounded down, by shifting and subtracting (W-205). By a power of two, as the sides of most regions are, it is one shift.
 fn whole_quotient(n: u64, d: u64) -> u64
     requires { ⌜ n < 2 ^ 63 ⌝ }
     requires { ⌜ 0 < d ⌝ }
@@ -260,7 +260,7 @@ fn whole_quotient(n: u64, d: u64) -> u64
     long_quotient(n, d, top_bit(n) - top)
 }
 
-// The place of the highest bit that is 1.
+// The place, from 0, of the highest bit that is 1.
 fn top_bit(n: u64) -> u32
     requires { ⌜ 0 < n ⌝ }
     ensures { λ r. ⌜ (2 ^ r ≤ n) × (n < 2 ^ (r + 1)) × (r < 64) ⌝ }
@@ -268,8 +268,9 @@ fn top_bit(n: u64) -> u32
     63 - u64::leading_zeros(n)
 }
 
-// As many bits as d is shifted up to lie beside n, and one before them, `first`. What is left of n stands in a word above the bits found so far; `take` is the shifted
-// divisor less the 1 that taking it puts in below. Four bits a turn: so large, the compiler leaves it one function, where a smaller one is copied into each caller.
+// n / d, bit by bit. Shifted up by `shift` places d lies beside n; whether it can be taken once is the quotient's first bit, which `first` has at its place, and `shift`
+// bits follow. The word has what is left of n above, and the bits found so far below; `take` is the shifted divisor less 1, so that taking it puts in a 1 below. Four
+// bits a turn: `nearest_quotient`, into which all this is drawn, is then so large that the compiler leaves it a function, where a smaller one goes into each caller.
 fn long_quotient(n: u64, d: u64, shift: u32) -> u64
     requires { ⌜ 0 < d ⌝ }
     requires { ⌜ d * 2 ^ shift < 2 ^ 63 ⌝ }
@@ -299,7 +300,7 @@ fn long_quotient(n: u64, d: u64, shift: u32) -> u64
     (word & (unit - 1)) + first
 }
 
-// The word shifted up by one place, into which a 1 comes where `take` can be taken. The sign of the difference tells: that is no branch.
+// The word shifted up by one place, into which a 1 comes where `take` can be taken. The sign of the difference tells, so that the compiler needs no branch.
 fn next_bit(word: u64, take: u64) -> u64
     requires { ⌜ word ≤ take ⌝ }
     requires { ⌜ take < 2 ^ 63 ⌝ }

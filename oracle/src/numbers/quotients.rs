@@ -105,7 +105,7 @@ pub fn cases(seed: u64) -> impl Iterator<Item = String> {
     })
 }
 
-/// Quotients of 48, 47, 33 and 32 bits; one whose first bit alone is 1; what is around a half; the largest numerator by 1,
+/// Quotients of 47, 33 and 32 bits; one whose first bit alone is 1; what is around a half; the largest numerator by 1,
 /// 3, 2^31 - 1 and 2^31; by 0.
 const LISTED: &str = "\
 div 2147483647 1

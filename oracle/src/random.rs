@@ -30,3 +30,17 @@ impl Random {
         from[self.below(from.len() as u64) as usize]
     }
 }
+
+/// Cases without end: one of the edges, then a random one, and so on, until the edges are used up.
+pub fn edges_and_random(
+    edges: Vec<String>,
+    mut random: Random,
+    random_case: fn(&mut Random) -> String,
+) -> impl Iterator<Item = String> {
+    // a prime that is larger than the number of edges: each is met once
+    const STRIDE: usize = 1_000_003;
+    (0..).map(move |made: usize| match made / 2 {
+        turn if made % 2 == 0 && turn < edges.len() => edges[turn * STRIDE % edges.len()].clone(),
+        _ => random_case(&mut random),
+    })
+}

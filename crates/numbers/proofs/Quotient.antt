@@ -1,8 +1,9 @@
 -- A quotient bit by bit, as `long_quotient` makes it, and how far its divisor is shifted. Assumes nothing.
 use mathlib.Core.Path.{_≡_, refl, sym, ap, subst, _∙_}
 use mathlib.Core.Bool.{Bool, true, false, cond}
+use mathlib.Core.Logic.{⊎-elim}
 use Prim.Native.Nat.{ℕ, zero, suc, _+_, _-_, _*_, _/_, _%_, _^_, _≤_, _<_}
-use native.Mathlib.Nat.{add-mul, mul-assoc, mul-comm, mul-left-comm, mul-one, one-mul, suc-mul, mul-le-mul-right, mul-lt-mul-of-pos-right, div-eq-of-lt-le, mod-eq-of-lt, mul-add-mod-self-right, lt-of-not-le, le-of-suc-le-suc, pow-succ', pow-le-pow-right}
+use native.Mathlib.Nat.{add-mul, mul-assoc, mul-comm, mul-left-comm, mul-one, one-mul, suc-mul, mul-le-mul-right, mul-lt-mul-of-pos-right, div-eq-of-lt-le, mod-eq-of-lt, mul-add-mod-self-right, lt-of-not-le, le-of-suc-le-suc, eq-zero-or-pos, pow-succ', pow-le-pow-right}
 use native.Mathlib.Omega.{arith}
 use lib.Dec.{ltb}
 use lib.Pow.{pow-pos, pow-add}
@@ -131,6 +132,13 @@ module _ {n d first shift take : ℕ} where
 
 -- ---- how far the divisor is shifted
 
+pow-up : {i j : ℕ} → i ≤ j → 2 ^ i ≤ 2 ^ j
+pow-up h = pow-le-pow-right {n = 2} (omega arith) h
+
+-- two powers of two are in the order of their exponents
+exponent : (i j : ℕ) → 2 ^ i < 2 ^ j → i < j
+exponent i j h = lt-of-not-le (λ (g : j ≤ i). omega (arith, pow-up g))
+
 -- what a divisor shifted up to less than 2^63 says of the shift
 pub record Shifted (d shift : ℕ) : Type 0 where
   pub some : 0 < 2 ^ shift
@@ -141,13 +149,13 @@ pub shifted : (d shift : ℕ) → 0 < d → d * 2 ^ shift < 2 ^ 63 → Shifted d
 shifted d shift p h =
     let least : 2 ^ shift ≤ d * 2 ^ shift = omega (arith, mul-le-mul-right {m = 1} {n = d} (2 ^ shift) p) in record {
       some = pow-pos shift;
-      near = lt-of-not-le (λ (g : 63 ≤ shift). omega (arith, pow-le-pow-right {n = 2} (omega arith) {i = 63} {j = shift} g));
+      near = exponent shift 63 (omega arith);
       least = least;
     }
 
 -- A number and a divisor, each by the place of its highest bit: the divisor shifted up to lie beside the number.
 pub top-le : (d n i j : ℕ) → 2 ^ i ≤ d → d ≤ n → n < 2 ^ (j + 1) → i ≤ j
-top-le d n i j l h u = le-of-suc-le-suc (lt-of-not-le (λ (g : suc j ≤ i). omega (arith, pow-le-pow-right {n = 2} (omega arith) {i = j + 1} {j = i} (omega arith))))
+top-le d n i j l h u = omega (arith, exponent i (j + 1) (omega arith))
 
 pub aligned : (n d i j : ℕ) → 2 ^ i ≤ d → d < 2 ^ (i + 1) → 2 ^ j ≤ n → n < 2 ^ (j + 1) → i ≤ j → n < 2 ^ 63 → (d * 2 ^ (j - i) < 2 ^ 63) × (n < 2 * (d * 2 ^ (j - i)))
 aligned n d i j di du ni nu h l =
@@ -155,20 +163,13 @@ aligned n d i j di du ni nu h l =
     let low : 2 ^ i * 2 ^ s ≡ 2 ^ j = sym (pow-add 2 i s) ∙ ap (λ (z : ℕ). 2 ^ z) (omega arith) in
     let high : 2 ^ (i + 1) * 2 ^ s ≡ 2 ^ (j + 1) = sym (pow-add 2 (i + 1) s) ∙ ap (λ (z : ℕ). 2 ^ z) (omega arith) in
     let twice : 2 ^ (j + 1) ≡ 2 ^ j * 2 = pow-add 2 j 1 in
-    let near : j < 63 = lt-of-not-le (λ (g : 63 ≤ j). omega (arith, pow-le-pow-right {n = 2} (omega arith) {i = 63} {j = j} g)) in
-    let most : 2 ^ (j + 1) ≤ 2 ^ 63 = pow-le-pow-right {n = 2} (omega arith) {i = j + 1} {j = 63} (omega arith) in
+    let most : 2 ^ (j + 1) ≤ 2 ^ 63 = pow-up {i = j + 1} {j = 63} (omega (arith, exponent j 63 (omega arith))) in
     (omega (arith, mul-lt-mul-of-pos-right {m = d} {n = 2 ^ (i + 1)} {k = 2 ^ s} du (pow-pos s)), omega (arith, mul-le-mul-right {m = 2 ^ i} {n = d} (2 ^ s) di))
 
 -- a divisor that is the power of its highest bit
 pub power-of : (d k : ℕ) → 2 ^ k ≤ d → k < 64 → d ≡ 1 * 2 ^ k % 2 ^ 64 → 2 ^ k ≡ d
-power-of d k l h e =
-    let fits : 2 ^ k ≤ 2 ^ 63 = pow-le-pow-right {n = 2} (omega arith) {i = k} {j = 63} (omega arith) in
-    omega arith
+power-of d k l h e = omega (arith, pow-up {i = k} {j = 63} (omega arith))
 
 -- a number whose last bit is not 1
 pub even : (n : ℕ) → (n % 2 ≡ 1 → ⊥) → n % 2 ≡ 0
-even n h = zero-or (n % 2) (omega arith) h
-  where
-    zero-or : (m : ℕ) → m < 2 → (m ≡ 1 → ⊥) → m ≡ 0
-    zero-or zero l g = refl
-    zero-or (suc m) l g = absurd (g (omega arith))
+even n h = ⊎-elim (λ z. z) (λ p. absurd (h (omega arith))) (eq-zero-or-pos (n % 2))

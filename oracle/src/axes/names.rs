@@ -3,7 +3,7 @@
 
 use super::cases::{good, index, line, put, table};
 use super::rules;
-use crate::random::Random;
+use crate::random::{edges_and_random, Random};
 
 /// 0xFFFF is none.
 const IDS: [u16; 12] = [
@@ -61,15 +61,8 @@ fn random_case(random: &mut Random) -> String {
     ask(&table, index)
 }
 
-/// Cases without end: one of the edges, then a random one, and so on, until the edges are used up.
 pub fn cases(seed: u64) -> impl Iterator<Item = String> {
-    // a prime that is larger than the number of edges: each is met once
-    const STRIDE: usize = 1_000_003;
-    let (edges, mut random) = (edges(), Random::new(seed ^ 0x6e61_6d65));
-    (0..).map(move |made: usize| match made / 2 {
-        turn if made % 2 == 0 && turn < edges.len() => edges[turn * STRIDE % edges.len()].clone(),
-        _ => random_case(&mut random),
-    })
+    edges_and_random(edges(), Random::new(seed ^ 0x6e61_6d65), random_case)
 }
 
 /// The id of its own record and not of the first or of the one before, 0xFFFF and its neighbours, a table that ends

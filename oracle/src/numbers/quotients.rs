@@ -1,6 +1,6 @@
 //! Cases of a quotient (W-205), div's and muldiv's: numerators at and just below the least that gives it.
 
-use crate::random::Random;
+use crate::random::{edges_and_random, Random};
 
 const LEAST: u64 = 1 << 31;
 
@@ -94,15 +94,8 @@ fn random_case(random: &mut Random) -> String {
     case(a as u64, factor, divisor, random.below(8))
 }
 
-/// Cases without end: one of the edges, then a random one, and so on, until the edges are used up.
 pub fn cases(seed: u64) -> impl Iterator<Item = String> {
-    // a prime that is larger than the number of edges: each is met once
-    const STRIDE: usize = 1_000_003;
-    let (edges, mut random) = (edges(), Random::new(seed ^ 0x7175_6f74));
-    (0..).map(move |made: usize| match made / 2 {
-        turn if made % 2 == 0 && turn < edges.len() => edges[turn * STRIDE % edges.len()].clone(),
-        _ => random_case(&mut random),
-    })
+    edges_and_random(edges(), Random::new(seed ^ 0x7175_6f74), random_case)
 }
 
 /// Quotients of 47, 33 and 32 bits; one whose first bit alone is 1; what is around a half; the largest numerator by 1,

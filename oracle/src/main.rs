@@ -1,7 +1,5 @@
 //! Cases of what was ported, answered by swash itself. README.md beside this folder says how to use it.
 
-#[allow(dead_code)]
-mod apart;
 mod axes;
 mod lines;
 mod metrics;
@@ -13,7 +11,6 @@ mod tags;
 mod text;
 mod widths;
 
-use apart::Apart;
 use std::cell::Cell;
 use std::collections::BTreeMap;
 use std::fmt::Display;
@@ -30,8 +27,7 @@ oracle stops                         of the cases on standard input write those 
 oracle compare SEED COUNT SUBJECT    hold the answers on standard input to those of the cases of SEED
 oracle compare FILE                  hold the answers on standard input to those of the cases in FILE
 oracle twins SEED COUNT              write COUNT cases of a delta, and then a quarter as many of an adjusted
-                                     width, each with its twin behind it; then a quarter of both, of the
-                                     new edition
+                                     width, each with its twin behind it
 oracle footprints SEED COUNT         hold the answers on standard input to those of the twins of SEED
 ";
 
@@ -70,17 +66,21 @@ pub struct Expected {
     pub rust: Rust,
     /// the answer by the rules, in exact integers
     pub rule: String,
-    /// whether what the Rust does fits the rules' answer; of what is counted apart, the second model's
+    /// whether what the Rust does fits the rules' answer; of a row outside the item count, their answer
+    /// without it; of an instance, their answer with the Rust's PostScript name id
     pub agree: bool,
-    /// whether it is counted apart, and why
-    pub apart: Option<Apart>,
+    /// whether a row outside its subtable's item count is met
+    pub outside: bool,
+    /// whether the Rust has another PostScript name id of an instance than the rules
+    pub other_name: bool,
 }
 
 impl Expected {
-    /// Where the Rust has no answer, or one without its number, and of what is counted apart, the rules decide.
+    /// Where the Rust has no answer, or one without its number, and where it does not look at an item
+    /// count or not at an instance's own PostScript name id, the rules decide.
     fn answer(&self) -> &str {
         match &self.rust {
-            Rust::Answer(answer) if self.apart.is_none() => answer,
+            Rust::Answer(answer) if !self.outside && !self.other_name => answer,
             _ => &self.rule,
         }
     }
@@ -134,8 +134,10 @@ struct Row {
     stops: u64,
     /// as the rules, where the Rust has no counterpart
     silent: u64,
-    /// as the rules, for each reason for which that is counted apart, whatever the Rust does
-    apart: apart::Counts,
+    /// as the rules, where a row outside its subtable's item count is met, whatever the Rust does
+    outside: u64,
+    /// as the rules, where the Rust has another PostScript name id, and all else is the Rust's
+    other_name: u64,
     differences: u64,
     /// where what the Rust does doesn't fit the rules in exact integers
     broken_rules: u64,
@@ -172,12 +174,17 @@ impl Row {
     fn compare(&mut self, case: &str, given: &str, wanted: Option<&Expected>) {
         self.cases += 1;
         let want = wanted.map_or(NO_CASE, Expected::answer);
-        let (count, by) = match wanted.map(|w| (w.apart, &w.rust)) {
-            Some((Some(apart), _)) => (self.apart.of(apart), apart.rule()),
-            Some((_, Rust::Stops)) => (&mut self.stops, "the rule, where the Rust stops"),
-            Some((_, Rust::Silent)) => (&mut self.silent, "the rule; the Rust has no counterpart"),
-            Some((_, Rust::None)) => (&mut self.equal, "the rule, for the Rust's None"),
-            Some((_, Rust::Answer(_))) | None => (&mut self.equal, "the Rust"),
+        let (count, by) = match wanted.map(|w| &w.rust) {
+            Some(_) if wanted.map_or(false, |w| w.outside) => {
+                (&mut self.outside, "the rule, for a row outside the count")
+            }
+            Some(_) if wanted.map_or(false, |w| w.other_name) => {
+                (&mut self.other_name, "the rule, for a PostScript name id")
+            }
+            Some(Rust::Stops) => (&mut self.stops, "the rule, where the Rust stops"),
+            Some(Rust::Silent) => (&mut self.silent, "the rule; the Rust has no counterpart"),
+            Some(Rust::None) => (&mut self.equal, "the rule, for the Rust's None"),
+            Some(Rust::Answer(_)) | None => (&mut self.equal, "the Rust"),
         };
         if given == want {
             *count += 1;
@@ -196,15 +203,13 @@ impl Row {
     }
 
     fn columns(&self) -> [u64; COLUMNS.len()] {
-        let [past_count, other_name, new_edition] = self.apart.columns();
         [
             self.cases,
             self.equal,
             self.stops,
             self.silent,
-            past_count,
-            other_name,
-            new_edition,
+            self.outside,
+            self.other_name,
             self.differences,
             self.broken_rules,
         ]
@@ -215,20 +220,20 @@ impl Row {
         self.equal += row.equal;
         self.stops += row.stops;
         self.silent += row.silent;
-        self.apart.add(&row.apart);
+        self.outside += row.outside;
+        self.other_name += row.other_name;
         self.differences += row.differences;
         self.broken_rules += row.broken_rules;
     }
 }
 
-const COLUMNS: [&str; 9] = [
+const COLUMNS: [&str; 8] = [
     "cases",
     "as the Rust",
     "Rust stops",
     "Rust silent",
     "past count",
     "other name",
-    "new edition",
     "differences",
     "rule vs. Rust",
 ];
@@ -282,10 +287,10 @@ fn cases(seed: &str, count: &str, subject: &str) -> Option<Box<dyn Iterator<Item
     let seed = seed.parse().ok()?;
     let numbers = numbers::cases::with_quotients(seed);
     let mut axes = axes::cases::with_avar_and_names(seed);
-    let mut store = store::cases::with_edition(seed);
-    let mut metrics = metrics::cases::with_edition(seed);
-    let mut widths = widths::cases::with_edition(seed);
-    let mut lines = lines::cases::with_edition(seed);
+    let mut store = store::cases::with_counts(seed);
+    let mut metrics = metrics::cases::with_counts(seed);
+    let mut widths = widths::cases::with_counts(seed);
+    let mut lines = lines::cases::Cases::new(seed);
     let all: Box<dyn Iterator<Item = String>> = match subject {
         "numbers" => Box::new(numbers),
         "axes" => Box::new(axes),
@@ -329,11 +334,8 @@ const SAMPLE_OF_NAMES: usize = 326;
 /// Lines of scalars in a list, behind these.
 const SAMPLE_OF_LINES: usize = 750;
 
-/// Lines of quotients, behind these.
+/// Lines of quotients, behind all others.
 const SAMPLE_OF_QUOTIENTS: usize = 250;
-
-/// Lines of the new edition, behind all others: of the store, of scalars in a list, of the metrics, of widths.
-const SAMPLE_OF_EDITION: [usize; 4] = [340, 150, 70, 70];
 
 fn run(words: &[&str]) -> Option<bool> {
     match *words {
@@ -355,11 +357,6 @@ fn run(words: &[&str]) -> Option<bool> {
             write_all(axes::names::sample(seed, SAMPLE_OF_NAMES).into_iter());
             write_all(lines::cases::sample(seed, SAMPLE_OF_LINES).into_iter());
             write_all(numbers::quotients::sample(seed, SAMPLE_OF_QUOTIENTS).into_iter());
-            let [of_store, of_lines, of_metrics, of_widths] = SAMPLE_OF_EDITION;
-            write_all(store::cases::edition::sample(seed, of_store).into_iter());
-            write_all(lines::cases::edition::sample(seed, of_lines).into_iter());
-            write_all(metrics::cases::sample_of_edition(seed, of_metrics).into_iter());
-            write_all(widths::cases::sample_of_edition(seed, of_widths).into_iter());
         }
         ["answers"] => {
             let answer = |line: String| {

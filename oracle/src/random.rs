@@ -31,30 +31,6 @@ impl Random {
     }
 }
 
-/// Every n-th case is one of the second kind; the others keep their order.
-pub fn every_nth(
-    n: u64,
-    mut others: impl Iterator<Item = String>,
-    mut second: impl Iterator<Item = String>,
-) -> impl Iterator<Item = String> {
-    (1..).map_while(move |turn: u64| match turn % n {
-        0 => second.next(),
-        _ => others.next(),
-    })
-}
-
-/// Lines for a stored sample: the listed ones, then cases that are not too long, so many in all.
-pub fn spread(
-    listed: &str,
-    cases: impl Iterator<Item = String>,
-    longest: usize,
-    count: usize,
-) -> Vec<String> {
-    let listed = listed.lines().map(str::to_string);
-    let short = cases.filter(|line| line.len() <= longest);
-    listed.chain(short).take(count).collect()
-}
-
 /// Cases without end: one of the edges, then a random one, and so on, until the edges are used up.
 pub fn edges_and_random(
     edges: Vec<String>,

@@ -1,8 +1,6 @@
 //! Fonts of a folder, asked of swash and of the library as it is linked. README.md beside this folder
 //! says how to use it.
 
-#[allow(dead_code)]
-mod apart;
 #[path = "shelf/ask.rs"]
 mod ask;
 #[path = "shelf/coords.rs"]
@@ -57,7 +55,7 @@ mod widths {
 }
 
 use ask::Asker;
-use damage::{Damage, Fields};
+use damage::Fields;
 use font::{Font, Kind};
 use judge::{Judge, Tally, COLUMNS, FUNCTIONS};
 use random::Random;
@@ -85,9 +83,6 @@ const LARGEST: u64 = 32 << 20;
 
 /// Of a font that is not damaged the random coordinates are always the same.
 const SEED: u64 = 20261115;
-
-/// The rounds of the new edition have random numbers of their own.
-const EDITION: u64 = 0x4544_4954;
 
 /// A name as it is, or, where it has what could break a line or is no UTF-8, quoted and escaped.
 fn shown(path: &Path) -> String {
@@ -232,51 +227,6 @@ fn names(folder: &Path, path: &Path) -> (String, String) {
     (row, shown(below))
 }
 
-/// Rounds of damage to one face.
-struct Rounds<'a> {
-    title: &'a str,
-    path: &'a Path,
-    face: usize,
-    directory: usize,
-    count: u64,
-    seed: u64,
-}
-
-/// A way to damage a font.
-type DamageBy = fn(&Fields, &mut [u8], &mut Random) -> Damage;
-
-impl Rounds<'_> {
-    /// Damages the face in each round, by random numbers of this seed, and has what is left of it asked. Not where there
-    /// is nothing to damage.
-    fn each(
-        &self,
-        data: &mut [u8],
-        seed: u64,
-        (fields, damage): (&Fields, DamageBy),
-        mut ask: impl FnMut(Font, String, Random),
-    ) {
-        for round in 0..if fields.is_empty() { 0 } else { self.count } {
-            let mut random = Random::new(seed_of(seed, self.path, self.face, round));
-            let done = damage(fields, data, &mut random);
-            let (title, seed) = (self.title, self.seed);
-            let input = format!("{title}, seed {seed}, round {round}: {}", done.text());
-            let font = Font::at(&data[..done.length], self.directory);
-            ask(font, input, random);
-            done.undo(data);
-        }
-    }
-}
-
-/// An asker of a damaged font.
-fn brief<'a, 'j>(font: Font<'a>, judge: &'j mut Judge, random: Random) -> Asker<'a, 'j> {
-    Asker {
-        font,
-        judge,
-        random,
-        brief: true,
-    }
-}
-
 impl Shelf {
     /// Compares each face of a file, as it is or so many times damaged.
     fn file(&mut self, folder: &Path, path: &Path, damage: Option<(u64, u64)>) -> io::Result<()> {
@@ -322,42 +272,39 @@ impl Shelf {
                     self.reading.ask(&asker.font, &glyphs, &lists);
                     self.reading.miscounted(&asker.font);
                 }
-                Some((count, seed)) => {
-                    let rounds = Rounds {
-                        title: &title,
-                        path,
-                        face,
-                        directory,
-                        count,
-                        seed,
-                    };
+                Some((rounds, seed)) => {
                     let fields = Fields::of(&data, directory);
-                    let damage: (_, DamageBy) = (&fields, Fields::damage);
-                    rounds.each(&mut data, seed, damage, |font, input, random| {
-                        self.judge.input = input;
-                        brief(font, &mut self.judge, random).all();
-                    });
-                    // apart from these, and by other random numbers, the new edition
-                    if fields.can_renew() {
-                        let renew: (_, DamageBy) = (&fields, Fields::renew);
-                        rounds.each(&mut data, seed ^ EDITION, renew, |font, input, random| {
-                            self.judge.input = input.clone();
-                            self.reading.input = input;
-                            let mut asker = brief(font, &mut self.judge, random);
-                            asker.deltas();
-                            let (glyphs, lists) = (asker.sample(), asker.lists());
-                            self.reading.ask(&asker.font, &glyphs, &lists);
-                        });
+                    for round in 0..if fields.is_empty() { 0 } else { rounds } {
+                        let mut random = Random::new(seed_of(seed, path, face, round));
+                        let done = fields.damage(&mut data, &mut random);
+                        self.judge.input =
+                            format!("{title}, seed {seed}, round {round}: {}", done.text());
+                        let mut asker = Asker {
+                            font: Font::at(&data[..done.length], directory),
+                            judge: &mut self.judge,
+                            random,
+                            brief: true,
+                        };
+                        asker.all();
+                        done.undo(&mut data);
                     }
-                    // and what widths are read by
+                    // apart from these, and by other random numbers, what widths are read by
                     let fields = Fields::of_widths(&data, directory);
-                    let damage: (_, DamageBy) = (&fields, Fields::damage);
-                    rounds.each(&mut data, !seed, damage, |font, input, random| {
-                        self.reading.input = input;
-                        let mut asker = brief(font, &mut self.judge, random);
+                    for round in 0..if fields.is_empty() { 0 } else { rounds } {
+                        let mut random = Random::new(seed_of(!seed, path, face, round));
+                        let done = fields.damage(&mut data, &mut random);
+                        self.reading.input =
+                            format!("{title}, seed {seed}, round {round}: {}", done.text());
+                        let mut asker = Asker {
+                            font: Font::at(&data[..done.length], directory),
+                            judge: &mut self.judge,
+                            random,
+                            brief: true,
+                        };
                         let (glyphs, lists) = (asker.sample(), asker.lists());
                         self.reading.ask(&asker.font, &glyphs, &lists);
-                    });
+                        done.undo(&mut data);
+                    }
                 }
             }
             for (k, tally) in self.reading.take().iter().enumerate() {

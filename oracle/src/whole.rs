@@ -2,8 +2,6 @@
 //! this reads them. README.md beside this folder says how to use it. It must build with rustc 1.63, the one that
 //! Debian 12 has a library for x86-64 for on other processors.
 
-#[allow(dead_code)]
-mod apart;
 #[path = "whole/coords.rs"]
 mod coords;
 #[path = "whole/deciding.rs"]

@@ -6,7 +6,7 @@ use mir.Syntax.{w8, w16, w32}
 use Rattle.readers.specs.Outcome.{value, refused}
 use Rattle.readers.specs.Reading.{unsigned_at, signed_at, big_endian, run}
 use Rattle.readers.specs.Answers.{number_of}
-use Rattle.readers.specs.declared.Refusal.TheVariants.{Absent, Short, Index, Tag, Arithmetic, Lengths, Room, Wide}
+use Rattle.readers.specs.declared.Refusal.TheVariants.{Absent, Short, Index, Tag, Arithmetic, Lengths, Room}
 use Rattle.examples.proofs.Written.{negative}
 
 -- What every example unfolds.
@@ -14,8 +14,8 @@ reading : Unit {0}
 unfolding unsigned_at signed_at big_endian run
 reading = tt
 
--- Document 01's seven numbers, in its order, and W-206's.
-pub one_to_eight :
+-- Document 01's seven numbers, in its order.
+pub one_to_seven :
     (number_of Absent ≡ 1)
     × (number_of Short ≡ 2)
     × (number_of Index ≡ 3)
@@ -23,8 +23,7 @@ pub one_to_eight :
     × (number_of Arithmetic ≡ 5)
     × (number_of Lengths ≡ 6)
     × (number_of Room ≡ 7)
-    × (number_of Wide ≡ 8)
-one_to_eight = (refl, refl, refl, refl, refl, refl, refl, refl)
+one_to_seven = (refl, refl, refl, refl, refl, refl, refl)
 
 -- The first byte is the most significant.
 pub first_byte_highest :

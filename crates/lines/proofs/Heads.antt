@@ -3,7 +3,6 @@ use Prim.Native.Nat.{ℕ, ◌+◌, ◌*◌, ◌≤◌, ◌<◌}
 use mathlib.Core.Path.{◌≡◌, ap, sym}
 use mathlib.Core.Bool.{not}
 use mathlib.Core.List.{List}
-use native.Mathlib.Nat.{one-mul}
 use native.Mathlib.Omega.{arith}
 use borrow.Author.Tests.{eq-eqb, ne_eqb, le-leb, lt-leb, lt-ltb, le-ltb}
 use lib.Dec.{leb, ltb}
@@ -14,9 +13,9 @@ use Rattle.readers.specs.Reading.{Reading, ◌>>=◌, ◌>>◌, check, unsigned_
 use Rattle.readers.proofs.Bytes.{present, missing}
 use Rattle.readers.proofs.Passed.{cut_later}
 use Rattle.readers.proofs.Reading.{passed, failed}
-use Rattle.opentype.specs.Item.{Regions, region_list, Row, words_in, unit_in, row_at, item_at, row_sum}
+use Rattle.opentype.specs.Item.{Regions, region_list, Row, row_at, item_at, row_sum}
 use Rattle.opentype.specs.Lines.{scalar_from, item_sum_with, delta_with, item_delta_with}
-use Rattle.lines.specs.LinesAnswers.{regions_at, row_from, row_in}
+use Rattle.lines.specs.LinesAnswers.{regions_at, row_from}
 
 -- The store's head and its region list are there, and the outer index is below the count of the subtables; offset is the list's.
 pub record Listed (font : List ℕ) (store outer : ℕ) : Type 0 where
@@ -29,7 +28,7 @@ pub record Listed (font : List ℕ) (store outer : ℕ) : Type 0 where
   pub listed : offset ≡ big_endian 4 font (store + 2)
   pub list : store + offset + 4 ≤ length font
 
--- And the subtable's head, at place from the store, with two of its counts; packed is wordDeltaCount.
+-- And the subtable's head, at place from the store, with two of its counts.
 pub record Subtable (font : List ℕ) (store outer : ℕ) : Type 0 where
   pub regions : Listed font store outer
   pub offsets : store + 8 + 4 * outer + 4 ≤ length font
@@ -37,9 +36,9 @@ pub record Subtable (font : List ℕ) (store outer : ℕ) : Type 0 where
   pub found : place ≡ big_endian 4 font (store + 8 + 4 * outer)
   pub there : store + place + 6 ≤ length font
   pub indexes : ℕ
-  pub packed : ℕ
+  pub words : ℕ
   pub many : indexes ≡ big_endian 2 font (store + place + 4)
-  pub wide : packed ≡ big_endian 2 font (store + place + 2)
+  pub wide : words ≡ big_endian 2 font (store + place + 2)
 
 module _ (font : List ℕ) (store outer inner : ℕ) (scalars : List ℤ) where
   abbrev delta : Outcome ℤ
@@ -97,13 +96,13 @@ module _ (font : List ℕ) (store outer inner : ℕ) (scalars : List ℤ) where
 
   module _ (s : Subtable font store outer) (region_count : ℕ) (regional : region_count ≡ big_endian 2 font (store + s.regions.offset + 2)) where
     abbrev row : Row
-    row = row_in (store + s.place) s.indexes (words_in s.packed) (unit_in s.packed) inner
+    row = row_from (store + s.place + 6) s.indexes s.words (store + s.place + 6 + 2 * s.indexes + inner * (s.indexes + s.words))
 
     abbrev summed_row : Reading ℤ
     summed_row = item_sum_with scalars (record { regions = regions s.regions region_count regional; row = row })
 
     -- What is left once the two counts are known.
-    from_counts : (w : Outcome ℤ) → w ≡ run font (check (leb (words_in s.packed) s.indexes) 5 >> (unsigned_at 2 (store + s.place) >>= λ items. check (ltb inner items) 3 >> summed_row)) → w ≡ delta
+    from_counts : (w : Outcome ℤ) → w ≡ run font (check (leb s.words s.indexes) 5 >> (unsigned_at 2 (store + s.place) >>= λ items. check (ltb inner items) 3 >> summed_row)) → w ≡ delta
     unfolding row_at unsigned_at
     from_counts w e =
         let there = s.there in
@@ -112,13 +111,13 @@ module _ (font : List ℕ) (store outer inner : ℕ) (scalars : List ℤ) where
         (rw (← s.found) (present 2 font (store + s.place + 4) _ _ (omega arith)
         (rw (← s.many) (present 2 font (store + s.place + 2) _ _ (omega arith) (rw (← s.wide) e))))))
 
-    pub words_many : s.indexes < words_in s.packed → refused 5 ≡ delta
-    words_many h = from_counts _ (failed font _ 5 _ (lt-leb (words_in s.packed) s.indexes h))
+    pub words_many : s.indexes < s.words → refused 5 ≡ delta
+    words_many h = from_counts _ (failed font _ 5 _ (lt-leb s.words s.indexes h))
 
-    module _ (few : words_in s.packed ≤ s.indexes) (items : ℕ) (rows : items ≡ big_endian 2 font (store + s.place)) where
+    module _ (few : s.words ≤ s.indexes) (items : ℕ) (rows : items ≡ big_endian 2 font (store + s.place)) where
       from_items : (w : Outcome ℤ) → w ≡ run font (check (ltb inner items) 3 >> summed_row) → w ≡ delta
       unfolding unsigned_at
-      from_items w e = let there = s.there in from_counts _ (passed font _ 5 _ _ (le-leb (words_in s.packed) s.indexes few) (present 2 font (store + s.place) _ _ (omega arith) (rw (← rows) e)))
+      from_items w e = let there = s.there in from_counts _ (passed font _ 5 _ _ (le-leb s.words s.indexes few) (present 2 font (store + s.place) _ _ (omega arith) (rw (← rows) e)))
 
       pub inner_large : items ≤ inner → refused 3 ≡ delta
       inner_large h = from_items _ (failed font _ 3 _ (le-ltb inner items h))
@@ -130,9 +129,3 @@ module _ (font : List ℕ) (store outer inner : ℕ) (scalars : List ℤ) where
       pub summed : (w : Outcome ℤ) → inner < items → region_count ≤ length scalars → w ≡ run font (row_sum (scalar_from scalars) region_count row) → w ≡ delta
       unfolding item_sum_with
       summed w h room e = from_items _ (passed font _ 3 _ _ (lt-ltb inner items h) (passed font _ 7 _ _ (le-leb region_count (length scalars) room) e))
-
-      -- The same without LONG_WORDS.
-      pub summed_short : (w : Outcome ℤ) → inner < items → region_count ≤ length scalars → unit_in s.packed ≡ 1
-          → w ≡ run font (row_sum (scalar_from scalars) region_count (row_from (store + s.place + 6) s.indexes (words_in s.packed) 1 (store + s.place + 6 + 2 * s.indexes + inner * (s.indexes + words_in s.packed))))
-          → w ≡ delta
-      summed_short w h room unit e = summed w h room (rw (unit, one-mul) e)

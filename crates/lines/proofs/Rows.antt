@@ -14,29 +14,30 @@ use mir.ValLaws.{to_z-of_z}
 use Rattle.numbers.specs.Numbers.{wrap32}
 use Rattle.readers.specs.Outcome.{Outcome, value, refused}
 use Rattle.readers.specs.Reading.{Reading, answer, refuse, ◌>>=◌, unsigned_at, signed_at, big_endian, run}
-use Rattle.readers.specs.Answers.{refusal, outcome_i16}
-use Rattle.readers.specs.declared.Refusal.{Refusal}
-use Rattle.readers.specs.declared.Signed.{Signed}
-use Rattle.readers.specs.declared.Signed.TheVariants as S
 use Rattle.readers.proofs.Bytes.{present, missing, first}
-use Rattle.readers.proofs.Reading.{took_by, stop_i16, passed, failed, answered, declined}
-use Rattle.opentype.proofs.Entry.{word_read, rest_read, short_read}
+use Rattle.readers.proofs.Reading.{took_by, passed, failed, answered, declined}
 use Rattle.opentype.specs.Item.{Row, region_index_at, delta_at, row_turn}
 use Rattle.opentype.specs.Lines.{known, scalar_from}
 use Rattle.lines.specs.LinesAnswers.{entry_end}
 
--- ---- an entry of a row without LONG_WORDS
+-- ---- an entry
 
 module _ (font : List ℕ) (words p k : ℕ) where
-  pub word_there : k < words → p + 2 * k + 2 ≤ length font → value (to_z w16 (big_endian 2 font (p + 2 * k))) ≡ run font (delta_at 1 words p k)
-  unfolding signed_at unsigned_at
-  word_there h there = word_read font 1 words p k (p + 2 * k) _ h (omega arith) (short_read font 2 (p + 2 * k) _ (omega arith) (present 2 font (p + 2 * k) _ _ there (answered font _)))
+  pub word_there : k < words → p + 2 * k + 2 ≤ length font → value (to_z w16 (big_endian 2 font (p + 2 * k))) ≡ run font (delta_at words p k)
+  unfolding delta_at signed_at unsigned_at
+  word_there h there = rw (lt-ltb k words h) (present 2 font (p + 2 * k) _ _ there (answered font _))
 
-  pub byte_there : words ≤ k → p + (words + k) + 1 ≤ length font → value (to_z w8 (get_or font (p + (words + k)) 0)) ≡ run font (delta_at 1 words p k)
-  unfolding signed_at unsigned_at
-  byte_there h there =
-      rest_read font 1 words p k (p + (words + k)) _ h (omega arith)
-      (short_read font 1 (p + (words + k)) _ (omega arith) (present 1 font (p + (words + k)) _ _ there (rw (first font (p + (words + k))) (answered font _))))
+  pub byte_there : words ≤ k → p + (words + k) + 1 ≤ length font → value (to_z w8 (get_or font (p + (words + k)) 0)) ≡ run font (delta_at words p k)
+  unfolding delta_at signed_at unsigned_at
+  byte_there h there = rw (le-ltb k words h) (present 1 font (p + (words + k)) _ _ there (rw (first font (p + (words + k))) (answered font _)))
+
+  pub entry_missing : {A : Type 0} (f : ℤ → Reading A) → length font < entry_end words p k → refused 2 ≡ run font (delta_at words p k >>= f)
+  unfolding delta_at signed_at unsigned_at
+  entry_missing f h = go (ltb k words) refl
+    where
+      go : (t : Bool) → ltb k words ≡ t → refused 2 ≡ run font (delta_at words p k >>= f)
+      go true e = let short = rw e at h in rw e (missing 2 font (p + 2 * k) _ (omega arith))
+      go false e = let short = rw e at h in rw e (missing 1 font (p + (words + k)) _ (omega arith))
 
   -- The end of a row is the end of each entry at the latest.
   pub entry_before : (count : ℕ) → k < count → words ≤ count → entry_end words p k ≤ p + (count + words)
@@ -77,7 +78,7 @@ module _ (font : List ℕ) (scalars : List ℤ) (region_count : ℕ) (row : Row)
 
     -- The index is below the count: what is left is the scalar and the entry.
     abbrev scaled : Reading ℤ
-    scaled = scalar_from scalars region >>= λ scalar. delta_at row.unit row.word_count row.start k >>= λ delta. onward (wrap32 (sum +ℤ scalar *ℤ delta))
+    scaled = scalar_from scalars region >>= λ scalar. delta_at row.word_delta_count row.start k >>= λ delta. onward (wrap32 (sum +ℤ scalar *ℤ delta))
 
     named : (w : Outcome ℤ) → region < region_count → w ≡ run font scaled → w ≡ run font turn
     unfolding row_turn region_index_at unsigned_at
@@ -91,11 +92,8 @@ module _ (font : List ℕ) (scalars : List ℤ) (region_count : ℕ) (row : Row)
       marked fits e = named _ below (rw (mark_refused kept fits e) (declined font 2))
 
       module _ (known-there : of_z w32 kept ≡ 4294967295 → ⊥) where
-        abbrev entry : Reading ℤ
-        entry = delta_at row.unit row.word_count row.start k
+        pub entry_cut : length font < entry_end row.word_delta_count row.start k → refused 2 ≡ run font turn
+        entry_cut h = named _ below (rw (no_mark kept known-there) (entry_missing font row.word_delta_count row.start k (λ delta. onward (wrap32 (sum +ℤ kept *ℤ delta))) h))
 
-        pub entry_refused : {r : Signed} {n : Refusal} → outcome_i16 r ≡ run font entry → r ≡ S.Refused n → refusal n ≡ run font turn
-        entry_refused d e = named _ below (rw (no_mark kept known-there) (stop_i16 font entry (λ delta. onward (wrap32 (sum +ℤ kept *ℤ delta))) d e))
-
-        pub turned : (delta : ℤ) (w : Outcome ℤ) → value delta ≡ run font entry → w ≡ run font (onward (wrap32 (sum +ℤ kept *ℤ delta))) → w ≡ run font turn
-        turned delta w d e = named _ below (rw (no_mark kept known-there) (took_by value font entry (λ delta. onward (wrap32 (sum +ℤ kept *ℤ delta))) w d refl refl e))
+        pub turned : (delta : ℤ) (w : Outcome ℤ) → value delta ≡ run font (delta_at row.word_delta_count row.start k) → w ≡ run font (onward (wrap32 (sum +ℤ kept *ℤ delta))) → w ≡ run font turn
+        turned delta w d e = named _ below (rw (no_mark kept known-there) (took_by value font (delta_at row.word_delta_count row.start k) (λ delta. onward (wrap32 (sum +ℤ kept *ℤ delta))) w d refl refl e))

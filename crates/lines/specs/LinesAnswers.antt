@@ -6,13 +6,9 @@ use Rattle.opentype.specs.Item.{Regions, Row}
 abbrev pub regions_at : ℕ → ℕ → ℕ → ℕ → Regions
 regions_at store offset axis_count region_count = record { start = store + offset + 4; axis_count = axis_count; region_count = region_count }
 
-abbrev pub row_from : ℕ → ℕ → ℕ → ℕ → ℕ → Row
-row_from indexes count word_count unit start = record { region_indexes = indexes; region_index_count = count; word_count = word_count; unit = unit; start = start }
+abbrev pub row_from : ℕ → ℕ → ℕ → ℕ → Row
+row_from indexes count word_count start = record { region_indexes = indexes; region_index_count = count; word_delta_count = word_count; start = start }
 
--- A row of the subtable at a position.
-abbrev pub row_in : ℕ → ℕ → ℕ → ℕ → ℕ → Row
-row_in subtable count word_count unit inner = row_from (subtable + 6) count word_count unit (subtable + 6 + 2 * count + inner * (unit * (count + word_count)))
-
--- Where entry k of a row without LONG_WORDS that starts at p ends: a word, or a byte.
+-- Where entry k of a row that starts at p ends: a word, or a byte.
 abbrev pub entry_end : ℕ → ℕ → ℕ → ℕ
 entry_end word_count p k = p + cond (ltb k word_count) (2 * k + 2) (word_count + k + 1)

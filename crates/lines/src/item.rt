@@ -1,22 +1,31 @@
 // A delta of the item variation store, with the scalars of its regions in a list.
-ghost use Rattle.std.specs.Prelude.{◌≡◌, ◌+◌, ◌*◌, ◌≤◌, length};
+ghost use Rattle.std.specs.Prelude.{◌≡◌, ◌+◌, ◌*◌, ◌^◌, ◌<◌, ◌≤◌, length};
 ghost use Rattle.readers.specs.Outcome.{value};
 ghost use Rattle.readers.specs.Reading.{run};
 ghost use Rattle.readers.specs.Answers.{outcome_fixed};
 ghost use Rattle.opentype.specs.Item.{delta_at, row_sum};
 ghost use Rattle.opentype.specs.Lines.{scalar_from, item_delta_with};
-ghost use Rattle.store.specs.ItemAnswers.{unit_of};
-ghost use Rattle.lines.specs.LinesAnswers.{row_from, row_in, entry_end};
+ghost use Rattle.lines.specs.LinesAnswers.{row_from, entry_end};
 
 use crate::bytes::{half_in, word_in};
 use numbers::{Fixed, as_i16};
-use readers::{FixedAnswer, Refusal, Signed};
-use store::item::delta_in;
+use readers::{FixedAnswer, Refusal};
 
-// Entry k of a row without LONG_WORDS, which is there.
+// Where entry k of the row at a position ends.
+fn entry_end(row: usize, word_count: u16, k: u16) -> usize
+    requires { row < 2 ^ 40 }
+    ensures { result ≡ entry_end word_count row k }
+{
+    if k < word_count {
+        return row + 2 * (k as usize) + 2;
+    }
+    row + ((word_count as usize) + (k as usize)) + 1
+}
+
+// Entry k, which is there.
 fn entry_in(font: &[u8], row: usize, word_count: u16, k: u16) -> i16
     requires { entry_end word_count row k ≤ length font.now }
-    ensures { value result ≡ run font.now (delta_at 1 word_count row k) }
+    ensures { value result ≡ run font.now (delta_at word_count row k) }
 {
     if k < word_count {
         return as_i16(half_in(font, row + 2 * (k as usize)));
@@ -24,7 +33,7 @@ fn entry_in(font: &[u8], row: usize, word_count: u16, k: u16) -> i16
     as_i16((font[row + ((word_count as usize) + (k as usize))] as u16) * 256) >> 8
 }
 
-// The sum over a row: of each region in turn its index, its scalar, its entry. Here all that it reads is there, and words have 16 bits, ..
+// The sum over a row: of each region in turn its index, its scalar, its entry. Here all that it reads is there, ..
 fn whole_row(
     font: &[u8],
     region_count: u16,
@@ -36,7 +45,7 @@ fn whole_row(
 ) -> FixedAnswer
     requires region_count_in_bounds { region_count ≤ length scalars.now }
     requires word_count_le_count { (word_count ≤ count) × (indexes + 2 * count ≤ row) × (row + (count + word_count) ≤ length font.now) }
-    ensures { outcome_fixed result ≡ run font.now (row_sum (scalar_from scalars.now) region_count (row_from indexes count word_count 1 row)) }
+    ensures { outcome_fixed result ≡ run font.now (row_sum (scalar_from scalars.now) region_count (row_from indexes count word_count row)) }
 {
     let mut sum = Fixed::ZERO;
     let mut k: u16 = 0;
@@ -55,22 +64,20 @@ fn whole_row(
     FixedAnswer::Value(sum)
 }
 
-// .. and here each read is tested, of a row of the subtable at an offset from a store; words have 16 bits or 32.
+// .. and here each read is tested.
 fn cut_row(
     font: &[u8],
     region_count: u16,
-    store: u32,
-    offset: u32,
+    indexes: usize,
     count: u16,
     word_count: u16,
-    long: bool,
-    inner: u16,
+    row: usize,
     scalars: &[i32],
 ) -> FixedAnswer
-    requires { region_count ≤ length scalars.now }
-    ensures { outcome_fixed result ≡ run font.now (row_sum (scalar_from scalars.now) region_count (row_in (store + offset) count word_count (unit_of long) inner)) }
+    requires region_count_in_bounds { region_count ≤ length scalars.now }
+    requires indexes_bound { (indexes < 2 ^ 40) × (row < 2 ^ 40) }
+    ensures { outcome_fixed result ≡ run font.now (row_sum (scalar_from scalars.now) region_count (row_from indexes count word_count row)) }
 {
-    let indexes = (store as usize) + (offset as usize) + 6;
     let mut sum = Fixed::ZERO;
     let mut k: u16 = 0;
     while k < count {
@@ -86,11 +93,10 @@ fn cut_row(
         if scalar == -1 {
             return FixedAnswer::Refused(Refusal::Short);
         }
-        let delta = match delta_in(font, store, offset, count, word_count, long, inner, k) {
-            Signed::Value(x) => x,
-            Signed::Refused(n) => return FixedAnswer::Refused(n),
-        };
-        sum = sum.add_product(Fixed(scalar), delta);
+        if font.len() < entry_end(row, word_count, k) {
+            return FixedAnswer::Refused(Refusal::Short);
+        }
+        sum = sum.add_product(Fixed(scalar), entry_in(font, row, word_count, k));
         k += 1;
     }
     FixedAnswer::Value(sum)
@@ -124,14 +130,12 @@ pub fn item_delta_with(
     if font.len() < at + 4 {
         return FixedAnswer::Refused(Refusal::Short);
     }
-    let offset = word_in(font, at);
-    let subtable = base + (offset as usize);
+    let subtable = base + (word_in(font, at) as usize);
     if font.len() < subtable + 6 {
         return FixedAnswer::Refused(Refusal::Short);
     }
     let count = half_in(font, subtable + 4);
-    let word_delta_count = half_in(font, subtable + 2);
-    let word_count = word_delta_count % 0x8000;
+    let word_count = half_in(font, subtable + 2);
     if word_count > count {
         return FixedAnswer::Refused(Refusal::Arithmetic);
     }
@@ -146,20 +150,8 @@ pub fn item_delta_with(
     let row = indexes
         + 2 * (count as usize)
         + (inner as usize) * ((count as usize) + (word_count as usize));
-    if word_delta_count < 0x8000 {
-        if font.len() >= row + ((count as usize) + (word_count as usize)) {
-            return whole_row(font, region_count, indexes, count, word_count, row, scalars);
-        }
+    if font.len() < row + ((count as usize) + (word_count as usize)) {
+        return cut_row(font, region_count, indexes, count, word_count, row, scalars);
     }
-    cut_row(
-        font,
-        region_count,
-        store,
-        offset,
-        count,
-        word_count,
-        word_delta_count >= 0x8000,
-        inner,
-        scalars,
-    )
+    whole_row(font, region_count, indexes, count, word_count, row, scalars)
 }

@@ -6,15 +6,12 @@ ghost use Rattle.opentype.specs.Metric.{advance, bearing, float_of};
 ghost use Rattle.opentype.specs.Lines.{metric_delta_with};
 ghost use Rattle.store.specs.MetricAnswers.{measure_of, place_of, place_outcome};
 
-use crate::bytes::{ending_in, word_in};
+use crate::bytes::{ending_in, half_in, word_in};
 use crate::item::item_delta_with;
 use readers::{FixedAnswer, Refusal, Word};
-use store::metric::{
-    IndexMapAnswer, Measure, Place, PlaceAnswer, float_of, index_map, map_field, outer_index,
-    store_of,
-};
+use store::metric::{Measure, Place, PlaceAnswer, float_of, map_field, store_of};
 
-fn least(a: u32, b: u32) -> u32
+fn least(a: u16, b: u16) -> u16
     ensures { result ≡ min a b }
 {
     if a < b { a } else { b }
@@ -43,20 +40,19 @@ fn place_in(font: &[u8], base: u32, measure: Measure, glyph_id: u16) -> PlaceAns
             Measure::Bearing => PlaceAnswer::Refused(Refusal::Absent),
         };
     }
-    let map = match index_map(font, base, offset) {
-        IndexMapAnswer::Value(x) => x,
-        IndexMapAnswer::Refused(n) => return PlaceAnswer::Refused(n),
-    };
-    let format = map.format;
-    let count = map.count;
-    let entries = map.entries;
+    let map = (base as usize) + (offset as usize);
+    if font.len() < map + 4 {
+        return PlaceAnswer::Refused(Refusal::Short);
+    }
+    let format = half_in(font, map);
+    let count = half_in(font, map + 2);
     if count == 0 {
         return PlaceAnswer::Refused(Refusal::Arithmetic);
     }
-    let index = least(glyph_id as u32, count - 1) as usize;
+    let index = least(glyph_id, count - 1) as usize;
     // the entry's bytes behind its first
     let more = format / 16 % 4;
-    let last = entries + ((more as usize) + 1) * index + (more as usize);
+    let last = map + 4 + ((more as usize) + 1) * index + (more as usize);
     if font.len() <= last {
         return PlaceAnswer::Refused(Refusal::Short);
     }
@@ -64,7 +60,7 @@ fn place_in(font: &[u8], base: u32, measure: Measure, glyph_id: u16) -> PlaceAns
     let bits = (format % 16 + 1) as u32;
     PlaceAnswer::Value(Place {
         store,
-        outer: outer_index(format, entry),
+        outer: (entry >> bits) % 0x1_0000,
         inner: (entry & ((1 << bits) - 1)) as u16,
     })
 }

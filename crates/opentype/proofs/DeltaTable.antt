@@ -9,13 +9,13 @@ use Rattle.readers.specs.Outcome.{value, refused}
 use Rattle.readers.specs.Reading.{unsigned_at, signed_at, big_endian, run}
 use Rattle.readers.specs.Walk.{turns, walk}
 use Rattle.opentype.specs.Region.{Triple, triple_at, skipped, next, tent, tent_at, axis_turn, region_scalar}
-use Rattle.opentype.specs.Item.{region_list, row_at, item_at, region_index_at, entry_at, delta_at, row_turn, row_sum, item_sum, delta_in}
-use Rattle.opentype.specs.Metric.{advance, bearing, delta_set_index_of, index_map_at, map_entry, store_of, delta_set_index_at, metric_delta}
+use Rattle.opentype.specs.Item.{region_list, row_at, item_at, region_index_at, delta_at, row_turn, row_sum, item_sum, delta_in}
+use Rattle.opentype.specs.Metric.{advance, bearing, delta_set_index_of, map_entry, store_of, delta_set_index_at, metric_delta}
 use Rattle.opentype.specs.Footprint.{bytes, parts_of}
 
 -- What every example unfolds.
 unfoldable pub computing : Unit {0}
-unfolding wrap32 minus times over unsigned_at signed_at big_endian run turns walk triple_at skipped tent tent_at axis_turn region_scalar region_list row_at item_at region_index_at entry_at delta_at row_turn row_sum item_sum delta_in index_map_at map_entry store_of delta_set_index_at metric_delta
+unfolding wrap32 minus times over unsigned_at signed_at big_endian run turns walk triple_at skipped tent tent_at axis_turn region_scalar region_list row_at item_at region_index_at delta_at row_turn row_sum item_sum delta_in map_entry store_of delta_set_index_at metric_delta
 computing = tt
 
 -- The fonts: four bytes, an HVAR without maps, whose store stands right behind it, at 20; the region list, and one subtable.
@@ -102,7 +102,7 @@ unfolding computing
 up_and_down = (refl, refl)
 
 -- With 4 bits for the inner index: those are low.
-pub entry_bits : delta_set_index_of 3 0x35 ≡ record { outer = 3; inner = 5 }
+pub entry_bits : delta_set_index_of 4 0x35 ≡ record { outer = 3; inner = 5 }
 entry_bits = refl
 
 -- The sum of the two offsets is tested before the map's offset is read, which is cut here.

@@ -1,4 +1,4 @@
--- W-201: inside the item count nothing moved. A delta is the one of a reading that does not look at the item count, unless that reading gets to a row which the subtable does not have. Assumes nothing.
+-- W-201: inside the item count nothing moved. A delta is the one of document 01's reading, which does not look at the item count, unless that reading gets to a row which the subtable does not have. Assumes nothing.
 use Prim.Native.Nat.{ℕ, ◌+◌, ◌*◌, ◌≤◌, ◌<◌}
 use mathlib.Core.Path.{◌≡◌, refl, ◌∙◌}
 use mathlib.Core.List.{List}
@@ -11,11 +11,11 @@ use borrow.Author.Tests.{le-leb, leb-true, lt-ltb, le-ltb}
 use Rattle.readers.specs.Outcome.{value}
 use Rattle.readers.specs.Reading.{Reading, answer, refuse, tested, ◌>>=◌, ◌>>◌, check, unsigned_at, big_endian, run}
 use Rattle.readers.proofs.TwoFonts.{then_same}
-use Rattle.opentype.specs.Item.{Regions, region_list, Row, words_in, unit_in, row_at, Item, item_at, item_sum, delta_in, item_delta}
+use Rattle.opentype.specs.Item.{Regions, region_list, Row, row_at, Item, item_at, item_sum, delta_in, item_delta}
 use Rattle.opentype.specs.Metric.{Measure, DeltaSetIndex, store_of, delta_set_index_at, metric_delta}
 use Rattle.opentype.specs.Mvar.{Header, index_in, find, tag_delta}
 
--- ---- the reading without the count
+-- ---- document 01's reading
 
 unfoldable pub uncounted_row : ℕ → ℕ → ℕ → Reading Row
 uncounted_row store outer inner = do
@@ -23,15 +23,12 @@ uncounted_row store outer inner = do
   let subtable = store + item_variation_data_offset
   region_index_count ← unsigned_at 2 (subtable + 4)
   word_delta_count ← unsigned_at 2 (subtable + 2)
-  let word_count = words_in word_delta_count
-  let unit = unit_in word_delta_count
-  check (leb word_count region_index_count) 5
+  check (leb word_delta_count region_index_count) 5
   answer (record {
     region_indexes = subtable + 6;
     region_index_count = region_index_count;
-    word_count = word_count;
-    unit = unit;
-    start = subtable + 6 + 2 * region_index_count + inner * (unit * (region_index_count + word_count));
+    word_delta_count = word_delta_count;
+    start = subtable + 6 + 2 * region_index_count + inner * (region_index_count + word_delta_count);
   })
 
 -- What stands before the row, then as now.

@@ -1,5 +1,4 @@
--- Entries of a row, over the unit; what the item count changed; small tables, computed by the definitions; laws of the halving search.
-pub mod Entry
+-- What the item count changed; small tables, computed by the definitions; laws of the halving search.
 pub mod AxisTable
 pub mod InstanceTable
 pub mod ItemCount

@@ -71,7 +71,7 @@ unfoldable pub entry_parts : List ℕ → Item → ℕ → List Part → List Pa
 entry_parts font item k rest = do
   region ← parts_of font (region_index_at item.regions.region_count (item.row.region_indexes + 2 * k))
   triples font item.regions region do
-    delta ← parts_of font (delta_at item.row.unit item.row.word_count item.row.start k)
+    delta ← parts_of font (delta_at item.row.word_delta_count item.row.start k)
     rest
 
 -- "Its region indices; all triples of each region named with a valid index; the row."
@@ -86,7 +86,7 @@ item_footprint font store outer inner = do
 
 -- ---- a glyph's advance or bearing
 
--- "The bytes at base + 4..+ 11 (bearing: + 4..+ 7, + 12..+ 15); the map's first four bytes and the used entry"; then the store's. W-206: "the footprint takes the wider count and the wider rows": of a map of format 1 the first six bytes.
+-- "The bytes at base + 4..+ 11 (bearing: + 4..+ 7, + 12..+ 15); the map's first four bytes and the used entry"; then the store's.
 unfoldable pub metric_footprint : List ℕ → ℕ → Measure → ℕ → List Part
 metric_footprint font base measure glyph = do
   store ← parts_of font (store_of base)

@@ -1,8 +1,7 @@
 -- ItemVariationStore: its region list, its subtables, and a delta (OpenType, common table formats, "Item variation store"; document 01, "The item
 -- variation store"), in document 01's order of reads.
-use Rattle.std.specs.Prelude.{ℕ, ◌+◌, ◌*◌, ◌%◌, Bool, cond, not, ◌||◌, List, leb, ltb, eqb, ℤ, pos, negsuc, ◌+ℤ◌, ◌*ℤ◌}
-use Rattle.std.specs.Int.Signed.{lt_z}
-use Rattle.std.specs.Int.{Width, w8, w16, w32}
+use Rattle.std.specs.Prelude.{ℕ, ◌+◌, ◌*◌, cond, not, List, leb, ltb, eqb, ℤ, pos, ◌+ℤ◌, ◌*ℤ◌}
+use Rattle.std.specs.Int.{Width, w8, w16}
 use Rattle.numbers.specs.Numbers.{wrap32}
 use Rattle.readers.specs.Outcome.{Outcome}
 use Rattle.readers.specs.Reading.{Reading, answer, ◌>>=◌, ◌>>◌, check, unsigned_at, signed_at, run}
@@ -27,41 +26,29 @@ region_list store = do
 abbrev pub region_start : Regions → ℕ → ℕ
 region_start regions region = regions.start + 6 * (region * regions.axis_count)
 
--- ItemVariationData, and one row of its delta sets: where regionIndexes and the row start, regionIndexCount, how many of its entries are words, and its unit: how many bytes each of the others has.
+-- ItemVariationData, and one row of its delta sets: where regionIndexes and the row start, regionIndexCount and wordDeltaCount.
 pub record Row : Type 0 where
   pub region_indexes : ℕ
   pub region_index_count : ℕ
-  pub word_count : ℕ
-  pub unit : ℕ
+  pub word_delta_count : ℕ
   pub start : ℕ
 
--- wordDeltaCount is a packed field: LONG_WORDS, 0x8000, and WORD_DELTA_COUNT_MASK, 0x7FFF. W-206: "subtables whose word count carries the 0x8000 flag: the low 15 bits are then the count, the wide entries are
--- 32 bits and the narrow ones 16". A word has two units, any other entry one; the unit is one byte, with the flag two.
-abbrev pub words_in : ℕ → ℕ
-words_in word_delta_count = word_delta_count % 0x8000
-
-abbrev pub unit_in : ℕ → ℕ
-unit_in word_delta_count = cond (leb 0x8000 word_delta_count) 2 1
-
--- A row is regionIndexCount + the count of words, in units; the rows follow the indexes. "5 for a word count now applies to the low 15 bits of flagged subtables" (W-206). W-201: "Read the item count (first
--- two bytes of the subtable) after the word-count check, and treat a row outside it as an index that is too large": refusal 3, "after 5 and before any region index".
+-- A row is regionIndexCount + wordDeltaCount bytes; the rows follow the indexes. W-201: "Read the item count (first two bytes of the subtable) after the word-count check, and treat a row outside it
+-- as an index that is too large": refusal 3, "after 5 and before any region index".
 unfoldable pub row_at : ℕ → ℕ → ℕ → Reading Row
 row_at store outer inner = do
   item_variation_data_offset ← unsigned_at 4 (store + 8 + 4 * outer)
   let subtable = store + item_variation_data_offset
   region_index_count ← unsigned_at 2 (subtable + 4)
   word_delta_count ← unsigned_at 2 (subtable + 2)
-  let word_count = words_in word_delta_count
-  let unit = unit_in word_delta_count
-  check (leb word_count region_index_count) 5
+  check (leb word_delta_count region_index_count) 5
   item_count ← unsigned_at 2 subtable
   check (ltb inner item_count) 3
   answer (record {
     region_indexes = subtable + 6;
     region_index_count = region_index_count;
-    word_count = word_count;
-    unit = unit;
-    start = subtable + 6 + 2 * region_index_count + inner * (unit * (region_index_count + word_count));
+    word_delta_count = word_delta_count;
+    start = subtable + 6 + 2 * region_index_count + inner * (region_index_count + word_delta_count);
   })
 
 -- What the store has for a delta-set index: its regions, and the row.
@@ -85,35 +72,22 @@ region_index_at region_count p = do
   check (ltb region region_count) 3
   answer region
 
--- An entry at p, signed, of 1, 2 or 4 bytes. W-206: "A wide entry outside −32768..32767 can't be held in 16.16": refusal 8, "when it is read". A shorter one is never outside.
-abbrev pub width_of : ℕ → Width
-width_of size = cond (eqb size 1) w8 (cond (eqb size 2) w16 w32)
+-- Entry k of a row that starts at p: how wide it is, and where. The first wordDeltaCount entries are words, the rest bytes.
+abbrev pub entry_width : ℕ → ℕ → Width
+entry_width word_delta_count k = cond (ltb k word_delta_count) w16 w8
 
-abbrev pub holdable : ℤ → Bool
-holdable delta = not (lt_z delta (negsuc 32767) || lt_z (pos 32767) delta)
+abbrev pub entry_start : ℕ → ℕ → ℕ → ℕ
+entry_start word_delta_count p k = p + cond (ltb k word_delta_count) (2 * k) (word_delta_count + k)
 
-unfoldable pub entry_at : ℕ → ℕ → Reading ℤ
-entry_at size p = do
-  delta ← signed_at (width_of size) p
-  check (ltb size 4 || holdable delta) 8
-  answer delta
-
--- Entry k of a row that starts at p: how many bytes it has, and where they start. The words come first.
-abbrev pub entry_size : ℕ → ℕ → ℕ → ℕ
-entry_size unit word_count k = unit * cond (ltb k word_count) 2 1
-
-abbrev pub entry_start : ℕ → ℕ → ℕ → ℕ → ℕ
-entry_start unit word_count p k = p + unit * cond (ltb k word_count) (2 * k) (word_count + k)
-
-unfoldable pub delta_at : ℕ → ℕ → ℕ → ℕ → Reading ℤ
-delta_at unit word_count p k = entry_at (entry_size unit word_count k) (entry_start unit word_count p k)
+unfoldable pub delta_at : ℕ → ℕ → ℕ → Reading ℤ
+delta_at word_delta_count p k = signed_at (entry_width word_delta_count k) (entry_start word_delta_count p k)
 
 -- One region of a row: its index, its scalar as it is handed in, its entry; the sum modulo 2^32 (D: OpenType's does not wrap).
 unfoldable pub row_turn : (ℕ → Reading ℤ) → ℕ → Row → Turn ℤ (Reading ℤ)
 row_turn scalar_of region_count row k sum onward = do
   region ← region_index_at region_count (row.region_indexes + 2 * k)
   scalar ← scalar_of region
-  delta ← delta_at row.unit row.word_count row.start k
+  delta ← delta_at row.word_delta_count row.start k
   onward (wrap32 (sum +ℤ scalar *ℤ delta))
 
 -- The sum of a row's entries, each times the scalar of its region.

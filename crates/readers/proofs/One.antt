@@ -8,7 +8,7 @@ use Rattle.numbers.specs.One.{One}
 use Rattle.readers.specs.Outcome.{Outcome, value, refused}
 use Rattle.readers.specs.Answers.{number_of, outcome8, outcome16, outcome32, outcome_i16, outcome_f2_dot14, outcome_fixed}
 use Rattle.readers.specs.declared.Refusal.{Refusal}
-use Rattle.readers.specs.declared.Refusal.TheVariants.{Absent, Short, Index, Tag, Arithmetic, Lengths, Room, Wide}
+use Rattle.readers.specs.declared.Refusal.TheVariants.{Absent, Short, Index, Tag, Arithmetic, Lengths, Room}
 use Rattle.readers.specs.declared.Byte.{Byte}
 use Rattle.readers.specs.declared.Byte.TheVariants as B
 use Rattle.readers.specs.declared.Half.{Half}
@@ -33,7 +33,7 @@ use Rattle.readers.proofs.fixed_at.Reads as fixed-at
 
 -- The refusal that has a number.
 abbrev pub refusal_of : ℕ → Refusal
-refusal_of n = cond (eqb n 1) Absent (cond (eqb n 2) Short (cond (eqb n 3) Index (cond (eqb n 4) Tag (cond (eqb n 5) Arithmetic (cond (eqb n 6) Lengths (cond (eqb n 7) Room Wide))))))
+refusal_of n = cond (eqb n 1) Absent (cond (eqb n 2) Short (cond (eqb n 3) Index (cond (eqb n 4) Tag (cond (eqb n 5) Arithmetic (cond (eqb n 6) Lengths Room)))))
 
 pub refusal_back : (n : Refusal) → refusal_of (number_of n) ≡ n
 refusal_back Absent = refl
@@ -43,7 +43,6 @@ refusal_back Tag = refl
 refusal_back Arithmetic = refl
 refusal_back Lengths = refl
 refusal_back Room = refl
-refusal_back Wide = refl
 
 -- The answer that has an outcome: of a value it is made by the first, of a refusal by the second.
 abbrev pub back : {R A : Type 0} → (A → R) → (Refusal → R) → Outcome A → R

@@ -1,14 +1,13 @@
 -- What a reading that gave a value has passed; and a reading whose last read is past the end. Assumes nothing.
-use Prim.Native.Nat.{ℕ, ◌+◌, ◌≤◌, ◌<◌}
-use mathlib.Core.Path.{◌≡◌, refl, sym}
+use Prim.Native.Nat.{ℕ, ◌+◌, ◌≤◌}
+use mathlib.Core.Path.{◌≡◌, refl}
 use mathlib.Core.Bool.{Bool, true, false}
 use mathlib.Core.List.{List}
 use borrow.Author.Tests.{leb-true}
 use lib.Dec.{leb}
 use lib.ListN.{length}
 use Rattle.readers.specs.Outcome.{Outcome, value, refused, unless}
-use Rattle.readers.specs.Reading.{Reading, answer, tested, bytes_at, ◌>>=◌, unsigned_at, big_endian, run}
-use Rattle.readers.proofs.Bytes.{missing}
+use Rattle.readers.specs.Reading.{Reading, answer, tested, bytes_at, big_endian, run}
 
 unless_value : {A : Type 0} (t : Bool) (n : ℕ) (o : Outcome A) (a : A) → unless t n o ≡ value a → (t ≡ true) × (o ≡ value a)
 unless_value true n o a e = (refl, e)
@@ -38,8 +37,3 @@ module _ {A : Type 0} (font : List ℕ) where
   pub cut_later : (n p : ℕ) (f : ℕ → Reading A) → ((x : ℕ) → run font (f x) ≡ refused 2) → run font (bytes_at n p f) ≡ refused 2
   unfolding run
   cut_later n p f h = unless_cut (leb (p + n) (length font)) 2 (run font (f (big_endian n font p))) (h (big_endian n font p))
-
-  -- Two reads, the second right behind the first and past the end, of a size that may hang on the first: one test of both.
-  pub pair_cut : (n p : ℕ) (size : ℕ → ℕ) (k : ℕ → ℕ → Reading A) → ((a : ℕ) → length font < p + n + size a) → refused 2 ≡ run font (unsigned_at n p >>= λ a. unsigned_at (size a) (p + n) >>= k a)
-  unfolding unsigned_at
-  pair_cut n p size k h = sym (cut_later n p _ (λ a. sym (missing (size a) font (p + n) (k a) (h a))))

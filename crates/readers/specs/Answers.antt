@@ -2,7 +2,7 @@
 use Rattle.std.specs.Prelude.{ℕ, ℤ}
 use Rattle.readers.specs.Outcome.{Outcome, value, refused}
 use Rattle.readers.specs.declared.Refusal.{Refusal}
-use Rattle.readers.specs.declared.Refusal.TheVariants.{Absent, Short, Index, Tag, Arithmetic, Lengths, Room, Wide}
+use Rattle.readers.specs.declared.Refusal.TheVariants.{Absent, Short, Index, Tag, Arithmetic, Lengths, Room}
 use Rattle.readers.specs.declared.Byte.{Byte}
 use Rattle.readers.specs.declared.Byte.TheVariants as B
 use Rattle.readers.specs.declared.Half.{Half}
@@ -16,7 +16,7 @@ use Rattle.readers.specs.declared.F2Dot14Answer.TheVariants as D
 use Rattle.readers.specs.declared.FixedAnswer.{FixedAnswer}
 use Rattle.readers.specs.declared.FixedAnswer.TheVariants as F
 
--- Document 01, "The seven refusals". W-206: "A wide entry outside −32768..32767 can't be held in 16.16. Refusals: 8 for such an entry".
+-- Document 01, "The seven refusals".
 abbrev pub number_of : Refusal → ℕ
 number_of Absent = 1
 number_of Short = 2
@@ -25,7 +25,6 @@ number_of Tag = 4
 number_of Arithmetic = 5
 number_of Lengths = 6
 number_of Room = 7
-number_of Wide = 8
 
 -- A refusal, of whatever kind the value would have been.
 abbrev pub refusal : {A : Type 0} → Refusal → Outcome A

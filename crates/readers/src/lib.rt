@@ -6,7 +6,7 @@ ghost use Rattle.readers.specs.Answers.{number_of, outcome8, outcome16, outcome3
 
 use numbers::{F2Dot14, Fixed, as_i16};
 
-// Document 01's seven, and W-206's, in the order of their numbers.
+// Document 01's seven, in the order of their numbers.
 #[derive(Drop)]
 pub enum Refusal {
     Absent,
@@ -16,10 +16,9 @@ pub enum Refusal {
     Arithmetic,
     Lengths,
     Room,
-    Wide,
 }
 
-// The number of a refusal, document 01's or a request's.
+// Document 01's number of a refusal.
 pub fn number(r: Refusal) -> u8
     ensures { result ≡ number_of r }
 {
@@ -31,7 +30,6 @@ pub fn number(r: Refusal) -> u8
         Refusal::Arithmetic => 5,
         Refusal::Lengths => 6,
         Refusal::Room => 7,
-        Refusal::Wide => 8,
     }
 }
 

@@ -1,4 +1,4 @@
--- Laws of the entries of a delta-set index map, where an entry is, its size, and the bits that it is made of; and of how far a row is from the first. Assumes nothing.
+-- Laws of the entries of a delta-set index map: where an entry is, its size, and the bits that it is made of. Assumes nothing.
 use Prim.Native.Nat.{ℕ, ◌-◌, ◌*◌, ◌%◌, ◌^◌, ◌≤◌, ◌<◌}
 use mathlib.Core.Path.{◌≡◌}
 use mathlib.Core.List.{List}
@@ -11,10 +11,6 @@ use Rattle.readers.specs.Reading.{unsigned_at, run}
 -- How far an entry is from the first.
 pub entry_near : (size index : ℕ) → size ≤ 4 → index < 2 ^ 16 → size * index < 2 ^ 18
 entry_near size index h k = let near : index ≤ 65535 = omega arith in omega (arith, mul-le-mul h near)
-
--- How far a row is from the first, each of up to 262140 bytes.
-pub row_near : (inner size : ℕ) → inner < 2 ^ 16 → size ≤ 262140 → inner * size < 2 ^ 35
-row_near inner size h k = let near : inner ≤ 65535 = omega arith in omega (arith, mul-le-mul near k)
 
 -- What was read as m bytes is an entry of m bytes.
 pub entry_of_size : (font : List ℕ) (size m p : ℕ) (w : Outcome ℕ) → size ≡ m → w ≡ run font (unsigned_at m p) → w ≡ run font (unsigned_at size p)

@@ -11,7 +11,7 @@ use lib.ListN.{length, take, drop, length-drop, drop_of_length-le}
 use lib.Seq.{take_all}
 use Rattle.readers.specs.Answers.{number_of}
 use Rattle.readers.specs.declared.Refusal.{Refusal}
-use Rattle.readers.specs.declared.Refusal.TheVariants.{Absent, Short, Index, Tag, Arithmetic, Lengths, Room, Wide}
+use Rattle.readers.specs.declared.Refusal.TheVariants.{Absent, Short, Index, Tag, Arithmetic, Lengths, Room}
 
 module _ (count store : ℕ) where
   -- The header's test: it fails where there are no records or there is no store, and holds elsewhere.
@@ -43,4 +43,3 @@ not_none Tag = refl
 not_none Arithmetic = refl
 not_none Lengths = refl
 not_none Room = refl
-not_none Wide = refl

@@ -162,7 +162,7 @@ module _ (f g : List ℕ) (c d : List ℤ) where
           (each (entry_parts f item) [] k i) (each (entry_parts g item) [] k i)
       unfolding Same run turns each row_turn entry_parts
       entries_same zero i sum = λ alike. (refl, refl)
-      entries_same (suc k) i sum = bind_same (region_index_at _ _) _ _ _ _ λ region e. weighed_same region i e _ _ _ _ λ s. bind_same (delta_at _ _ _ _) _ _ _ _ λ delta v. entries_same k (i + 1) _
+      entries_same (suc k) i sum = bind_same (region_index_at _ _) _ _ _ _ λ region e. weighed_same region i e _ _ _ _ λ s. bind_same (delta_at _ _ _) _ _ _ _ λ delta v. entries_same k (i + 1) _
 
       pub row_same : Same (row_sum x item.regions.region_count item.row) (row_sum y item.regions.region_count item.row) (row_parts f item) (row_parts g item)
       unfolding row_sum row_parts walk

@@ -1,5 +1,5 @@
--- What the structs and answers of `item` stand for: a region list's offset counts from the store.
-use Rattle.std.specs.Prelude.{ℕ, ◌+◌, ◌*◌, ◌^◌, ◌<◌, Bool, cond}
+-- What the structs and answers of `item` stand for: their offsets count from the store.
+use Rattle.std.specs.Prelude.{ℕ, ◌+◌, ◌*◌}
 use Rattle.readers.specs.Outcome.{Outcome, value}
 use Rattle.readers.specs.Answers.{refusal}
 use Rattle.opentype.specs.Item.{Regions, Row, Item}
@@ -19,27 +19,17 @@ abbrev pub regions_outcome : RegionListAnswer → Outcome Regions
 regions_outcome (L.Value l) = value (regions_of l)
 regions_outcome (L.Refused n) = refusal n
 
--- The unit of a row's entries, one byte or with LONG_WORDS two.
-abbrev pub unit_of : Bool → ℕ
-unit_of long = cond long 2 1
-
 abbrev pub row_of : ItemData → ℕ → Row
 row_of d inner = record {
-  region_indexes = d.indexes;
+  region_indexes = d.store + d.offset + 6;
   region_index_count = d.region_index_count;
-  word_count = d.word_count;
-  unit = unit_of d.long;
-  start = d.indexes + 2 * d.region_index_count + inner * (unit_of d.long * (d.region_index_count + d.word_count));
+  word_delta_count = d.word_count;
+  start = d.store + d.offset + 6 + 2 * d.region_index_count + inner * (d.region_index_count + d.word_count);
 }
 
 abbrev pub row_outcome : ℕ → ItemDataAnswer → Outcome Row
 row_outcome inner (I.Value d) = value (row_of d inner)
 row_outcome inner (I.Refused n) = refusal n
-
--- The indices start near enough for every position of a row to be a number of the machine.
-abbrev pub NearData : ItemDataAnswer → Type 0
-NearData (I.Value d) = d.indexes < 2 ^ 34
-NearData (I.Refused n) = Unit {0}
 
 abbrev pub item_of : RegionList → ItemData → ℕ → Item
 item_of l d inner = record { regions = regions_of l; row = row_of d inner }
@@ -47,7 +37,3 @@ item_of l d inner = record { regions = regions_of l; row = row_of d inner }
 abbrev pub item_outcome : ℕ → ItemAnswer → Outcome Item
 item_outcome inner (A.Value i) = value (item_of i.list i.«data» inner)
 item_outcome inner (A.Refused n) = refusal n
-
-abbrev pub NearItem : ItemAnswer → Type 0
-NearItem (A.Value i) = i.«data».indexes < 2 ^ 34
-NearItem (A.Refused n) = Unit {0}

@@ -1,5 +1,5 @@
 -- What the structs and answers of `metric` stand for, and a step on the way.
-use Rattle.std.specs.Prelude.{ℕ, ◌^◌, ◌≤◌, ◌<◌, List, ℤ}
+use Rattle.std.specs.Prelude.{ℕ, List, ℤ}
 use Rattle.readers.specs.Outcome.{Outcome, value, onward}
 use Rattle.readers.specs.Reading.{Reading, answer, ◌>>=◌}
 use Rattle.readers.specs.Answers.{refusal}
@@ -7,9 +7,6 @@ use Rattle.opentype.specs.Item.{item_delta}
 use Rattle.opentype.specs.Metric as Metric
 use Rattle.store.specs.declared.metric.Measure.{Measure}
 use Rattle.store.specs.declared.metric.Measure.TheVariants as M
-use Rattle.store.specs.declared.metric.IndexMap.{IndexMap}
-use Rattle.store.specs.declared.metric.IndexMapAnswer.{IndexMapAnswer}
-use Rattle.store.specs.declared.metric.IndexMapAnswer.TheVariants as N
 use Rattle.store.specs.declared.metric.DeltaSetAnswer.{DeltaSetAnswer}
 use Rattle.store.specs.declared.metric.DeltaSetAnswer.TheVariants as D
 use Rattle.store.specs.declared.metric.PlaceAnswer.{PlaceAnswer}
@@ -18,18 +15,6 @@ use Rattle.store.specs.declared.metric.PlaceAnswer.TheVariants as P
 abbrev pub measure_of : Measure → Metric.Measure
 measure_of M.Advance = Metric.advance
 measure_of M.Bearing = Metric.bearing
-
-abbrev pub map_of : IndexMap → Metric.DeltaSetIndexMap
-map_of m = record { format = m.format; map_count = m.count; map_data = m.entries }
-
-abbrev pub index_map_outcome : IndexMapAnswer → Outcome Metric.DeltaSetIndexMap
-index_map_outcome (N.Value m) = value (map_of m)
-index_map_outcome (N.Refused n) = refusal n
-
--- The entries stand behind four bytes at least, and near enough for every place of one to be a number of the machine.
-abbrev pub NearMap : IndexMapAnswer → Type 0
-NearMap (N.Value m) = (4 ≤ m.entries) × (m.entries < 2 ^ 40)
-NearMap (N.Refused n) = Unit {0}
 
 abbrev pub delta_set_outcome : DeltaSetAnswer → Outcome Metric.DeltaSetIndex
 delta_set_outcome (D.Value d) = value (record { outer = d.outer; inner = d.inner })

@@ -1,13 +1,13 @@
 // A delta of the item variation store.
-ghost use Rattle.std.specs.Prelude.{◌≡◌, ◌+◌, ◌*◌, ◌^◌, ◌<◌, ◌≤◌};
+ghost use Rattle.std.specs.Prelude.{◌≡◌, ◌+◌, ◌*◌, ◌^◌, ◌<◌};
 ghost use Rattle.readers.specs.Reading.{run};
 ghost use Rattle.readers.specs.Answers.{outcome16, outcome_i16, outcome_fixed};
 ghost use Rattle.opentype.specs.Region.{region_scalar};
-ghost use Rattle.opentype.specs.Item.{region_list, row_at, item_at, region_index_at, entry_at, delta_at, item_sum, item_delta};
-ghost use Rattle.store.specs.ItemAnswers.{regions_outcome, unit_of, row_outcome, NearData, item_of, item_outcome, NearItem};
+ghost use Rattle.opentype.specs.Item.{region_list, row_at, item_at, region_index_at, delta_at, item_sum, item_delta};
+ghost use Rattle.store.specs.ItemAnswers.{regions_outcome, row_outcome, item_of, item_outcome};
 
 use crate::region::region_scalar;
-use numbers::{Fixed, as_i16};
+use numbers::Fixed;
 use readers::{FixedAnswer, Half, Refusal, Signed, Word, i8_at, i16_at, u16_at, u32_at};
 
 // The region list: its store, and its offset from there (DECISIONS 80).
@@ -25,13 +25,13 @@ enum RegionListAnswer {
     Refused(Refusal),
 }
 
-// A subtable: where its region indices start, how many they are and how many entries of a row are words; whether these have 32 bits, and the others 16 (OpenType's LONG_WORDS).
+// A subtable: its store, its offset from there, and how many entries of a row are words.
 #[derive(Drop)]
 struct ItemData {
-    indexes: usize,
+    store: u32,
+    offset: u32,
     region_index_count: u16,
     word_count: u16,
-    long: bool,
 }
 
 #[derive(Drop)]
@@ -62,9 +62,6 @@ fn region_list(font: &[u8], store: u32) -> RegionListAnswer
         Word::Refused(n) => return RegionListAnswer::Refused(n),
     };
     let list = base + offset as usize;
-    if font.len() < list + 4 {
-        return RegionListAnswer::Refused(Refusal::Short);
-    }
     let axis_count = match u16_at(font, list) {
         Half::Value(x) => x,
         Half::Refused(n) => return RegionListAnswer::Refused(n),
@@ -83,7 +80,7 @@ fn region_list(font: &[u8], store: u32) -> RegionListAnswer
 
 // The subtable of a row, which must be inside its item count (W-201).
 fn item_data(font: &[u8], store: u32, outer: u32, inner: u16) -> ItemDataAnswer
-    ensures { (row_outcome inner result ≡ run font.now (row_at store outer inner)) × NearData result }
+    ensures { row_outcome inner result ≡ run font.now (row_at store outer inner) }
 {
     let base = store as usize;
     let offset = match u32_at(font, base + 8 + 4 * (outer as usize)) {
@@ -95,12 +92,10 @@ fn item_data(font: &[u8], store: u32, outer: u32, inner: u16) -> ItemDataAnswer
         Half::Value(x) => x,
         Half::Refused(n) => return ItemDataAnswer::Refused(n),
     };
-    let word_delta_count = match u16_at(font, subtable + 2) {
+    let word_count = match u16_at(font, subtable + 2) {
         Half::Value(x) => x,
         Half::Refused(n) => return ItemDataAnswer::Refused(n),
     };
-    let long = word_delta_count >= 0x8000;
-    let word_count = word_delta_count % 0x8000;
     if word_count > region_index_count {
         return ItemDataAnswer::Refused(Refusal::Arithmetic);
     }
@@ -112,10 +107,10 @@ fn item_data(font: &[u8], store: u32, outer: u32, inner: u16) -> ItemDataAnswer
         return ItemDataAnswer::Refused(Refusal::Index);
     }
     ItemDataAnswer::Value(ItemData {
-        indexes: subtable + 6,
+        store,
+        offset,
         region_index_count,
         word_count,
-        long,
     })
 }
 
@@ -132,38 +127,10 @@ fn region_index(font: &[u8], at: usize, region_count: u16) -> Half
     Half::Value(region)
 }
 
-// An entry of 32 bits, which 16 must hold (W-206).
-fn wide_at(font: &[u8], at: usize) -> Signed
-    ensures { outcome_i16 result ≡ run font.now (entry_at 4 at) }
-{
-    let bits = match u32_at(font, at) {
-        Word::Value(x) => x,
-        Word::Refused(n) => return Signed::Refused(n),
-    };
-    if bits < 0x8000 {
-        return Signed::Value(as_i16(bits as u16));
-    }
-    if bits < 0xffff_8000 {
-        return Signed::Refused(Refusal::Wide);
-    }
-    Signed::Value(as_i16((bits % 0x1_0000) as u16))
-}
-
-// Entry k of the row at a position, where words have 32 bits, ..
-fn long_delta_at(font: &[u8], row: usize, word_count: u16, k: u16) -> Signed
-    requires { row < 2 ^ 40 }
-    ensures { outcome_i16 result ≡ run font.now (delta_at 2 word_count row k) }
-{
-    if k < word_count {
-        return wide_at(font, row + 4 * (k as usize));
-    }
-    i16_at(font, row + 2 * ((word_count as usize) + (k as usize)))
-}
-
-// .. and where they have 16.
+// Entry k of the row at a position.
 fn delta_at(font: &[u8], row: usize, word_count: u16, k: u16) -> Signed
     requires { row < 2 ^ 40 }
-    ensures { outcome_i16 result ≡ run font.now (delta_at 1 word_count row k) }
+    ensures { outcome_i16 result ≡ run font.now (delta_at word_count row k) }
 {
     if k < word_count {
         return i16_at(font, row + 2 * (k as usize));
@@ -186,54 +153,19 @@ pub fn scalar_in(
     region_scalar(font, regions, region, axis_count, coords)
 }
 
-// How many bytes a row has.
-fn row_size(count: u16, word_count: u16, long: bool) -> usize
-    ensures { (result ≡ unit_of long * (count + word_count)) × (result ≤ 262140) }
-{
-    let size = (count as usize) + (word_count as usize);
-    if long {
-        return 2 * size;
-    }
-    size
-}
-
-// Entry k of a row of the subtable at an offset from a store. A row's sum has the row's place at hand, and does without.
-pub fn delta_in(
-    font: &[u8],
-    store: u32,
-    offset: u32,
-    count: u16,
-    word_count: u16,
-    long: bool,
-    inner: u16,
-    k: u16,
-) -> Signed
-    ensures { outcome_i16 result ≡ run font.now (delta_at (unit_of long) word_count (store + offset + 6 + 2 * count + inner * (unit_of long * (count + word_count))) k) }
-{
-    let indexes = (store as usize) + (offset as usize) + 6;
-    let row = indexes + 2 * (count as usize) + (inner as usize) * row_size(count, word_count, long);
-    if long {
-        return long_delta_at(font, row, word_count, k);
-    }
-    delta_at(font, row, word_count, k)
-}
-
 // The sum over a row: of each region in turn its index, its scalar, its entry.
 fn row_sum(font: &[u8], list: RegionList, data: ItemData, inner: u16, coords: &[i16]) -> FixedAnswer
-    requires { «data».indexes < 2 ^ 34 }
     ensures { outcome_fixed result ≡ run font.now (item_sum coords.now (item_of list «data» inner)) }
 {
     let axis_count = list.axis_count;
     let region_count = list.region_count;
     let count = data.region_index_count;
-    if count == 0 {
-        return FixedAnswer::Value(Fixed::ZERO);
-    }
     let word_count = data.word_count;
-    let long = data.long;
     let regions = (list.store as usize) + (list.offset as usize) + 4;
-    let indexes = data.indexes;
-    let row = indexes + 2 * (count as usize) + (inner as usize) * row_size(count, word_count, long);
+    let indexes = (data.store as usize) + (data.offset as usize) + 6;
+    let row = indexes
+        + 2 * (count as usize)
+        + (inner as usize) * ((count as usize) + (word_count as usize));
     let mut sum = Fixed::ZERO;
     let mut k: u16 = 0;
     while k < count {
@@ -245,12 +177,7 @@ fn row_sum(font: &[u8], list: RegionList, data: ItemData, inner: u16, coords: &[
             FixedAnswer::Value(x) => x,
             FixedAnswer::Refused(n) => return FixedAnswer::Refused(n),
         };
-        let read = if long {
-            long_delta_at(font, row, word_count, k)
-        } else {
-            delta_at(font, row, word_count, k)
-        };
-        let delta = match read {
+        let delta = match delta_at(font, row, word_count, k) {
             Signed::Value(x) => x,
             Signed::Refused(n) => return FixedAnswer::Refused(n),
         };
@@ -262,13 +189,10 @@ fn row_sum(font: &[u8], list: RegionList, data: ItemData, inner: u16, coords: &[
 
 // What the store has for a delta-set index: all that is read before the row, as one answer (DECISIONS 78).
 fn item_at(font: &[u8], store: u32, outer: u32, inner: u16) -> ItemAnswer
-    ensures { (item_outcome inner result ≡ run font.now (item_at store outer inner)) × NearItem result }
+    ensures { item_outcome inner result ≡ run font.now (item_at store outer inner) }
 {
     if store == 0 {
         return ItemAnswer::Refused(Refusal::Absent);
-    }
-    if font.len() < (store as usize) + 8 {
-        return ItemAnswer::Refused(Refusal::Short);
     }
     let count = match u16_at(font, (store as usize) + 6) {
         Half::Value(x) => x,
@@ -288,7 +212,7 @@ fn item_at(font: &[u8], store: u32, outer: u32, inner: u16) -> ItemAnswer
     ItemAnswer::Value(Item { list, data })
 }
 
-// Returns a delta from an item variation store. swash's outer index has 16 bits; an entry of a map can hold more, and a map of format 1 does not cut them.
+// Returns a delta from an item variation store. swash's outer index has 16 bits; an entry of a map can hold more, and the map cuts them.
 pub fn item_delta(font: &[u8], store: u32, outer: u32, inner: u16, coords: &[i16]) -> FixedAnswer
     ensures { outcome_fixed result ≡ item_delta font.now store outer inner coords.now }
 {

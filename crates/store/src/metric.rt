@@ -1,9 +1,9 @@
 // The delta of a glyph's advance or bearing, from HVAR or VVAR.
-ghost use Rattle.std.specs.Prelude.{◌≡◌, ◌+◌, ◌-◌, ◌*◌, ◌/◌, ◌%◌, ◌^◌, ◌<◌, ◌≤◌, min};
+ghost use Rattle.std.specs.Prelude.{◌≡◌, ◌+◌, ◌-◌, ◌*◌, ◌^◌, ◌<◌, ◌≤◌, min};
 ghost use Rattle.readers.specs.Reading.{run, unsigned_at};
 ghost use Rattle.readers.specs.Answers.{outcome32, outcome_fixed};
-ghost use Rattle.opentype.specs.Metric.{advance, bearing, map_field, index_map_at, outer_in, map_entry, store_of, delta_set_index_at, metric_delta, float_of};
-ghost use Rattle.store.specs.MetricAnswers.{measure_of, index_map_outcome, NearMap, delta_set_outcome, place_of, place_outcome, delta_from};
+ghost use Rattle.opentype.specs.Metric.{advance, bearing, map_field, map_entry, store_of, delta_set_index_at, metric_delta, float_of};
+ghost use Rattle.store.specs.MetricAnswers.{measure_of, delta_set_outcome, place_of, place_outcome, delta_from};
 
 use crate::item::item_delta;
 use readers::{Byte, FixedAnswer, Half, Refusal, Word, u8_at, u16_at, u24_at, u32_at};
@@ -25,20 +25,6 @@ struct DeltaSetIndex {
 #[derive(Drop)]
 enum DeltaSetAnswer {
     Value(DeltaSetIndex),
-    Refused(Refusal),
-}
-
-// A map: its format, how many entries it has, and where they start.
-#[derive(Drop)]
-pub struct IndexMap {
-    pub format: u16,
-    pub count: u32,
-    pub entries: usize,
-}
-
-#[derive(Drop)]
-pub enum IndexMapAnswer {
-    Value(IndexMap),
     Refused(Refusal),
 }
 
@@ -99,83 +85,42 @@ fn entry_at(font: &[u8], at: usize, size: u16, index: u16) -> Word
     }
 }
 
-// The map at an offset from a table's base. One test comes before its reads: in either format it has four bytes.
-pub fn index_map(font: &[u8], base: u32, offset: u32) -> IndexMapAnswer
-    ensures { (index_map_outcome result ≡ run font.now (index_map_at (base + offset))) × NearMap result }
-{
-    let at = (base as usize) + (offset as usize);
-    if font.len() < at + 4 {
-        return IndexMapAnswer::Refused(Refusal::Short);
-    }
-    let format = match u16_at(font, at) {
-        Half::Value(x) => x,
-        Half::Refused(n) => return IndexMapAnswer::Refused(n),
-    };
-    if format / 256 == 1 {
-        return match u32_at(font, at + 2) {
-            Word::Value(count) => IndexMapAnswer::Value(IndexMap {
-                format,
-                count,
-                entries: at + 6,
-            }),
-            Word::Refused(n) => IndexMapAnswer::Refused(n),
-        };
-    }
-    match u16_at(font, at + 2) {
-        Half::Value(x) => IndexMapAnswer::Value(IndexMap {
-            format,
-            count: x as u32,
-            entries: at + 4,
-        }),
-        Half::Refused(n) => IndexMapAnswer::Refused(n),
-    }
-}
-
 // A glyph past the last entry uses that.
-fn entry_index(glyph_id: u16, count: u32) -> u16
+fn entry_index(glyph_id: u16, count: u16) -> u16
     requires { 1 ≤ count }
     ensures { result ≡ min glyph_id (count - 1) }
 {
-    if (glyph_id as u32) < count {
+    if glyph_id < count {
         glyph_id
     } else {
-        (count - 1) as u16
+        count - 1
     }
 }
 
-// The outer index that an entry has above the bits of its inner one.
-pub fn outer_index(format: u16, entry: u32) -> u32
-    ensures { result ≡ outer_in «format» (entry / 2 ^ («format» % 16 + 1)) }
+// The entry of a glyph in the map at a position.
+fn map_entry(font: &[u8], at: usize, glyph_id: u16) -> DeltaSetAnswer
+    requires { at < 2 ^ 34 }
+    ensures { delta_set_outcome result ≡ run font.now (map_entry at glyph_id) }
 {
-    let bits = (format % 16 + 1) as u32;
-    if format / 256 == 1 {
-        return entry >> bits;
-    }
-    (entry >> bits) % 0x1_0000
-}
-
-// The entry of a glyph in the map at an offset from a table's base.
-fn map_entry(font: &[u8], base: u32, offset: u32, glyph_id: u16) -> DeltaSetAnswer
-    ensures { delta_set_outcome result ≡ run font.now (map_entry (base + offset) glyph_id) }
-{
-    let map = match index_map(font, base, offset) {
-        IndexMapAnswer::Value(x) => x,
-        IndexMapAnswer::Refused(n) => return DeltaSetAnswer::Refused(n),
+    let format = match u16_at(font, at) {
+        Half::Value(x) => x,
+        Half::Refused(n) => return DeltaSetAnswer::Refused(n),
     };
-    let format = map.format;
-    let count = map.count;
-    let entries = map.entries;
+    let count = match u16_at(font, at + 2) {
+        Half::Value(x) => x,
+        Half::Refused(n) => return DeltaSetAnswer::Refused(n),
+    };
     if count == 0 {
         return DeltaSetAnswer::Refused(Refusal::Arithmetic);
     }
     let index = entry_index(glyph_id, count);
-    let entry = match entry_at(font, entries, format / 16 % 4 + 1, index) {
+    let entry = match entry_at(font, at + 4, format / 16 % 4 + 1, index) {
         Word::Value(x) => x,
         Word::Refused(n) => return DeltaSetAnswer::Refused(n),
     };
     let bits = (format % 16 + 1) as u32;
     DeltaSetAnswer::Value(DeltaSetIndex {
-        outer: outer_index(format, entry),
+        outer: (entry >> bits) % 0x1_0000,
         inner: (entry & ((1 << bits) - 1)) as u16,
     })
 }
@@ -199,7 +144,7 @@ fn delta_set(font: &[u8], base: u32, measure: Measure, glyph_id: u16) -> DeltaSe
         Word::Refused(n) => return DeltaSetAnswer::Refused(n),
     };
     if offset != 0 {
-        return map_entry(font, base, offset, glyph_id);
+        return map_entry(font, (base as usize) + (offset as usize), glyph_id);
     }
     match measure {
         Measure::Advance => DeltaSetAnswer::Value(DeltaSetIndex {

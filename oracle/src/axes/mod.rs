@@ -6,7 +6,6 @@ pub mod cases;
 pub mod names;
 pub mod rules;
 
-use crate::apart::Apart;
 use crate::numbers::rules::to_f32;
 use crate::private::internal::fixed::Fixed;
 use crate::private::internal::var::{adjust_axis, Fvar, VarAxis};
@@ -471,7 +470,8 @@ impl Case {
             agree: self.agree(&rust, theirs.as_ref().unwrap_or(&rule)),
             rust,
             rule,
-            apart: theirs.map(|_| Apart::OtherName),
+            outside: false,
+            other_name: theirs.is_some(),
         }
     }
 }

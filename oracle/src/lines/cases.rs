@@ -2,13 +2,9 @@
 //! cut at every byte, hostile contents, each refusal before, at and behind that of a short list, region records
 //! that run out, offsets at their limits; and the store's own cases, each a second time through a filled list.
 
-pub mod edition;
-
 use super::*;
-use crate::random::{every_nth, spread, Random};
-use crate::store::cases::{
-    self, asked, coords_text, Edges, Map, Question, Record, Store, Subtable,
-};
+use crate::random::Random;
+use crate::store::cases::{self, coords_text, Edges, Map, Record, Store, Subtable};
 use crate::store::cases::{ALWAYS, BASE, FALL, HILL, RISE, TAGS};
 use crate::store::rules::Regions;
 use crate::store::NEW;
@@ -67,6 +63,8 @@ fn hostile_lists(regions: usize) -> Vec<Vec<i32>> {
     lists
 }
 
+type Question = (&'static str, String);
+
 /// Filling and then a row.
 fn row_filled(store: usize, row: (u32, u16), coords: &[i16], room: usize) -> Question {
     let (coords, list) = (coords_text(coords), list_text(&marks(room)));
@@ -92,6 +90,14 @@ fn font_of(store: &Store) -> Vec<u8> {
 }
 
 const AT: usize = 3;
+
+fn asked(font: Vec<u8>, questions: Vec<Question>, cut: bool) -> cases::Asked {
+    cases::Asked {
+        font,
+        questions,
+        cut,
+    }
+}
 
 const COORDS: [&[i16]; 4] = [&[8192, -4096, 16384, -1], &[], &[-1, -16384], &[0]];
 
@@ -219,10 +225,11 @@ fn orders() -> Vec<cases::Asked> {
         let most = indices.len() as u16;
         for word_count in 0..=most + 1 {
             for item_count in [0, 1, 2] {
-                let row = &[100, -3][..indices.len()];
                 let subtable = Subtable {
                     item_count,
-                    ..Subtable::of(word_count, indices, &[row; 2])
+                    word_count,
+                    indices: indices.to_vec(),
+                    rows: vec![vec![100, -3][..indices.len()].to_vec(); 2],
                 };
                 let store = Store::of_one(&[&[ALWAYS], &[HILL]], subtable);
                 let mut questions = vec![];
@@ -249,8 +256,12 @@ fn records() -> Vec<cases::Asked> {
     let regions: [&[[i16; 3]]; 3] = [&[RISE, HILL], &[FALL, RISE], &[ALWAYS, FALL]];
     let named: [&[u16]; 6] = [&[0], &[1], &[2], &[0, 2], &[2, 0, 1], &[]];
     for indices in named {
-        let row = &[100, 7, -9][..indices.len()];
-        let subtable = Subtable::of(0, indices, &[row]);
+        let subtable = Subtable {
+            item_count: 1,
+            word_count: 0,
+            indices: indices.to_vec(),
+            rows: vec![vec![100, 7, -9][..indices.len()].to_vec()],
+        };
         let mut store = Store::of_one(&regions, subtable);
         store.regions_last = true;
         let lists: [&[i16]; 6] = [
@@ -300,11 +311,18 @@ fn maps() -> Vec<cases::Asked> {
     let mut fonts = vec![];
     let mut store = Store::of_one(&[&[RISE], &[FALL]], Subtable::of_row(0, &[100, 50]));
     store.subtables.push(Subtable::of_row(1, &[-300, 7]));
+    let bytes = store.bytes();
     for size in 1..=4u16 {
         for bits in [1, 8, 16] {
             let outers = [0u64, 1, 65536, 65537].map(|outer| (outer << bits) as u32);
             for entries in [&[][..], &outers[..1], &outers[1..3], &outers[3..]] {
-                let font = cases::hvar_with_map_last(&Map::of(size, bits, entries), &store);
+                let map = Map::of(size, bits, entries).bytes();
+                let end = 20 + bytes.len() as u32;
+                let mut font = vec![0, 0, 0, 0, 0, 1, 0, 0];
+                for field in [20, end, end, 0] {
+                    font.extend(field.to_be_bytes());
+                }
+                let font = [font, bytes.clone(), map].concat();
                 let mut questions = vec![];
                 for names in GLYPH_NAMES {
                     for glyph in [0, 1, 65535] {
@@ -324,7 +342,12 @@ fn maps() -> Vec<cases::Asked> {
 fn many() -> Vec<cases::Asked> {
     let mut fonts = vec![];
     for regions in [254u16, 255, 256, 257, 32768, 65535] {
-        let subtable = Subtable::of(1, &[0, regions - 1], &[&[-300, 7]]);
+        let subtable = Subtable {
+            item_count: 1,
+            word_count: 1,
+            indices: vec![0, regions - 1],
+            rows: vec![vec![-300, 7]],
+        };
         let mut font = font_of(&Store::of_one(&[], subtable));
         // the axis count, then the region count
         font[AT + 12..AT + 16].copy_from_slice(&[&[0, 0], &regions.to_be_bytes()[..]].concat());
@@ -540,11 +563,6 @@ impl Iterator for Cases {
         let line = self.others.next()?;
         Some(of_store(&line, becomes, &mut self.random))
     }
-}
-
-/// Every fifth case is one of the new edition.
-pub fn with_edition(seed: u64) -> impl Iterator<Item = String> {
-    every_nth(5, Cases::new(seed), edition::cases(seed))
 }
 
 /// Each refusal of both store offsets and of filling, at every byte; lists of each length; a region list in the

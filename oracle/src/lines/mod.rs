@@ -4,10 +4,9 @@
 pub mod cases;
 pub mod rules;
 
-use crate::apart::Apart;
 use crate::axes::rules::Answer;
 use crate::private::internal::shown;
-use crate::store::rules::{self as store_rules, Map, RULES};
+use crate::store::rules::{self as store_rules, Map, COUNTED};
 use crate::store::{self, Kind};
 use crate::text;
 use crate::{Expected, Rust};
@@ -132,32 +131,33 @@ impl Case {
         (said, list)
     }
 
-    /// A delta with a list, and why it is counted apart.
-    fn with(&self, delta: &str, list: &[i32]) -> (Answer<i64>, Option<Apart>) {
+    /// A delta with a list, and whether its row is outside the item count.
+    fn with(&self, delta: &str, list: &[i32]) -> (Answer<i64>, bool) {
         let font = &self.font[..];
         let n: Vec<usize> = self.numbers.iter().map(|n| *n as usize).collect();
-        let mut model = RULES;
+        let mut rows = COUNTED;
         let said = match delta {
-            "item_delta" => rules::item(font, n[0], n[1], n[2], list, &mut model),
+            "item_delta" => rules::item(font, n[0], n[1], n[2], list, &mut rows),
             "advance_fixed" | "advance_delta" => {
-                rules::metric(font, n[0], Map::Advance, n[1], list, &mut model)
+                rules::metric(font, n[0], Map::Advance, n[1], list, &mut rows)
             }
             "sb_fixed" | "sb_delta" => {
-                rules::metric(font, n[0], Map::Bearing, n[1], list, &mut model)
+                rules::metric(font, n[0], Map::Bearing, n[1], list, &mut rows)
             }
-            _ => rules::tag_delta(font, n[0], self.numbers[1], list, &mut model),
+            _ => rules::tag_delta(font, n[0], self.numbers[1], list, &mut rows),
         };
-        (said, model.apart())
+        (said, rows.outside)
     }
 
     /// What the Rust can't be asked for, or need not be.
-    fn silent(&self, rule: String, apart: Option<Apart>) -> Expected {
+    fn silent(&self, rule: String, outside: bool) -> Expected {
         Expected {
             name: self.name,
             rust: Rust::Silent,
             rule,
             agree: true,
-            apart,
+            outside,
+            other_name: false,
         }
     }
 
@@ -178,7 +178,7 @@ impl Case {
         Expected {
             rust,
             agree,
-            ..self.silent(rule, None)
+            ..self.silent(rule, false)
         }
     }
 
@@ -187,17 +187,17 @@ impl Case {
     fn through(&self, delta: &'static str) -> Expected {
         let plain = store::Case::new(delta, &self.font, &self.numbers, &self.coords);
         let (count, list) = self.filled();
-        let (said, apart) = self.with(delta, &list);
+        let (said, outside) = self.with(delta, &list);
         let before = format!("{} {}", answer_text(&count), list_text(&list));
         let text = plain.text(&said.map(|delta| vec![delta]));
         let rule = format!("{before} {text}");
         let expected = plain.expected();
-        let same = expected.agree && expected.apart == apart;
         if said == Err(7) {
             // the plain walk has gone past the row's head
+            let agree = count == Err(7) && expected.agree && !expected.outside;
             return Expected {
-                agree: same && count == Err(7),
-                ..self.silent(rule, apart)
+                agree,
+                ..self.silent(rule, outside)
             };
         }
         let rust = match expected.rust {
@@ -207,9 +207,10 @@ impl Case {
         Expected {
             name: self.name,
             rust,
-            agree: same && expected.rule == text,
+            agree: expected.agree && expected.rule == text && expected.outside == outside,
             rule,
-            apart,
+            outside,
+            other_name: false,
         }
     }
 
@@ -217,18 +218,18 @@ impl Case {
         match self.asked {
             StoreOffset => {
                 let said = store_rules::store_of(&self.font, self.numbers[0] as usize);
-                self.silent(answer_text(&said), None)
+                self.silent(answer_text(&said), false)
             }
             MvarStoreOffset => self.mvar_store_offset(),
             Fill => {
                 let (said, list) = self.filled();
                 let rule = format!("{} {}", answer_text(&said), list_text(&list));
-                self.silent(rule, None)
+                self.silent(rule, false)
             }
             With(delta) => {
                 let plain = store::Case::new(delta, &self.font, &self.numbers, &[]);
-                let (said, apart) = self.with(delta, &self.list);
-                self.silent(plain.text(&said.map(|delta| vec![delta])), apart)
+                let (said, outside) = self.with(delta, &self.list);
+                self.silent(plain.text(&said.map(|delta| vec![delta])), outside)
             }
             Filled(delta) => self.through(delta),
         }

@@ -3,7 +3,7 @@
 //! row are those of the store's rules. Nothing here is taken from the Rattle. A refusal is its number.
 
 use crate::axes::rules::Answer;
-use crate::store::rules::{self, Map, Model, Regions, Row};
+use crate::store::rules::{self, Map, Regions, Row, Rows};
 
 /// What stands for a region whose record runs out before its scalar is known.
 const UNKNOWN: i32 = -1;
@@ -33,9 +33,9 @@ pub fn item(
     outer: usize,
     inner: usize,
     list: &[i32],
-    model: &mut Model,
+    rows: &mut Rows,
 ) -> Answer<i64> {
-    let row = Row::of(font, store, outer, inner, model)?;
+    let row = Row::of(font, store, outer, inner, rows)?;
     if list.len() < row.regions.count {
         return Err(7);
     }
@@ -51,10 +51,10 @@ pub fn metric(
     map: Map,
     glyph: usize,
     list: &[i32],
-    model: &mut Model,
+    rows: &mut Rows,
 ) -> Answer<i64> {
-    let (store, outer, inner) = rules::glyph_item(font, base, map, glyph, model)?;
-    item(font, store, outer, inner, list, model)
+    let (store, outer, inner) = rules::glyph_item(font, base, map, glyph)?;
+    item(font, store, outer, inner, list, rows)
 }
 
 pub fn tag_delta(
@@ -62,11 +62,11 @@ pub fn tag_delta(
     offset: usize,
     tag: u32,
     list: &[i32],
-    model: &mut Model,
+    rows: &mut Rows,
 ) -> Answer<i64> {
     let mvar = rules::open(font, offset)?;
     let (outer, inner) = mvar.item(tag)?;
-    item(mvar.part, mvar.store, outer, inner, list, model)
+    item(mvar.part, mvar.store, outer, inner, list, rows)
 }
 
 /// Fills the list of the store of the table at base.

@@ -7,7 +7,7 @@ pub mod rules;
 use crate::private::internal::{set_unvaried, Unvaried};
 use crate::private::metrics::{GlyphMetrics, Metrics, MetricsProxy, VerticalNumbers};
 use crate::private::FontRef;
-use crate::store::rules::{Map, Model, FORMER, RULES};
+use crate::store::rules::{Map, Rows, COUNTED, UNCOUNTED};
 use crate::text;
 use crate::{Expected, Rust};
 use rules::{Measures, Place, Vertical};
@@ -311,8 +311,8 @@ impl Case {
     }
 
     /// What the rules say, and the place, which knows what was met on the way.
-    fn by_rules(&self, model: Model) -> (String, Place<'_>) {
-        let mut place = Place::new(&self.font, &self.coords, model);
+    fn by_rules(&self, rows: Rows) -> (String, Place<'_>) {
+        let mut place = Place::new(&self.font, &self.coords, rows);
         let Unvaried {
             advance,
             bearing,
@@ -357,12 +357,11 @@ impl Case {
 
     pub fn expected(&self) -> Expected {
         let rust = Rust::of(|| self.rust());
-        let (rule, met) = self.by_rules(RULES);
-        let apart = met.model.apart();
-        // It may be that one delta is one of those that are counted apart and another one is none: the Rust is held
-        // to what all of them are by the second model.
-        let (theirs, place) = self.by_rules(FORMER);
-        assert!(apart.is_some() || theirs == rule);
+        let (rule, met) = self.by_rules(COUNTED);
+        // It may be that one delta has a row outside the item count and another one has none: the Rust is held to
+        // what all of them are without it.
+        let (theirs, place) = self.by_rules(UNCOUNTED);
+        assert!(met.rows.outside || theirs == rule);
         // The Rust stops where a delta is refused by 5, and nowhere else.
         let agree = match &rust {
             Rust::Answer(answer) => *answer == theirs && !place.refused_by_5,
@@ -375,7 +374,8 @@ impl Case {
             rust,
             rule,
             agree,
-            apart,
+            outside: met.rows.outside,
+            other_name: false,
         }
     }
 }

@@ -4,7 +4,7 @@
 
 use crate::axes::rules::Answer;
 use crate::numbers::rules::to_f32;
-use crate::store::rules::{metric, open, tag_delta, Map, Model};
+use crate::store::rules::{metric, open, tag_delta, Map, Rows};
 
 /// Ascent, descent, leading; the same three for vertical type; cap height, x height, average and
 /// largest width, underline offset, strikeout offset, stroke size.
@@ -51,17 +51,17 @@ pub struct Place<'a> {
     pub coords: &'a [i16],
     /// whether a delta that was asked for is refused by 5: there the Rust stops
     pub refused_by_5: bool,
-    /// which of the two models of the store answers, and what it has met
-    pub model: Model,
+    /// which of the two models of the store answers, and whether a row outside an item count was met
+    pub rows: Rows,
 }
 
 impl<'a> Place<'a> {
-    pub fn new(font: &'a [u8], coords: &'a [i16], model: Model) -> Self {
+    pub fn new(font: &'a [u8], coords: &'a [i16], rows: Rows) -> Self {
         Place {
             font,
             coords,
             refused_by_5: false,
-            model,
+            rows,
         }
     }
 
@@ -73,7 +73,7 @@ impl<'a> Place<'a> {
 
     fn tag(&mut self, mvar: u32, tag: &[u8; 4]) -> f32 {
         let tag = u32::from_be_bytes(*tag);
-        let delta = tag_delta(self.font, mvar as usize, tag, self.coords, &mut self.model);
+        let delta = tag_delta(self.font, mvar as usize, tag, self.coords, &mut self.rows);
         self.float(delta)
     }
 
@@ -121,7 +121,7 @@ impl<'a> Place<'a> {
     /// (unvaried + delta)·scale. A base of 0 refuses: no table, no delta.
     pub fn varied(&mut self, unvaried: i32, base: u32, map: Map, glyph: u16, scale: f32) -> f32 {
         let (base, glyph) = (base as usize, glyph as usize);
-        let delta = metric(self.font, base, map, glyph, self.coords, &mut self.model);
+        let delta = metric(self.font, base, map, glyph, self.coords, &mut self.rows);
         (unvaried as f32 + self.float(delta)) * scale
     }
 

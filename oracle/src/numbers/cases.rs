@@ -1,7 +1,7 @@
 //! Cases of the 16.16 arithmetic: edges and their products, and random numbers of every magnitude.
 
 use super::{quotients, Kind, FUNCTIONS};
-use crate::random::{every_nth, Random};
+use crate::random::Random;
 
 const MIN: i64 = -(1 << 31);
 const MAX: i64 = (1 << 31) - 1;
@@ -209,7 +209,12 @@ impl Iterator for Cases {
 
 /// Every fourth case is one of quotients.
 pub fn with_quotients(seed: u64) -> impl Iterator<Item = String> {
-    every_nth(4, Cases::new(seed), quotients::cases(seed))
+    let mut others = Cases::new(seed);
+    let mut quotients = quotients::cases(seed);
+    (0..).map_while(move |turn: u64| match turn % 4 {
+        3 => quotients.next(),
+        _ => others.next(),
+    })
 }
 
 /// The examples of the rules, and the inputs where a wrong rounding, sign, range or wrap shows.

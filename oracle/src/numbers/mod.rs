@@ -133,7 +133,8 @@ impl Case {
             rust,
             rule,
             agree,
-            apart: None,
+            outside: false,
+            other_name: false,
         }
     }
 }

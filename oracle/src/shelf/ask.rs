@@ -13,7 +13,7 @@ use crate::private::setting::Setting;
 use crate::private::variation::{Instances, Variation, Variations};
 use crate::private::FontRef;
 use crate::random::Random;
-use crate::store::rules::{self as store_rules, Map, Model, FORMER, RULES};
+use crate::store::rules::{self as store_rules, Map, Rows, COUNTED, UNCOUNTED};
 use crate::suolluvik::{self, MvarScalars, Refusal, Scalars};
 use crate::tags::TAGS;
 
@@ -132,11 +132,6 @@ impl<'a> Asker<'a, '_> {
         self.axes();
         self.instances();
         self.settings();
-        self.deltas();
-    }
-
-    /// Those of HVAR, VVAR and MVAR.
-    pub fn deltas(&mut self) {
         let lists = self.lists();
         self.stores();
         for (k, list) in lists.iter().enumerate() {
@@ -460,7 +455,7 @@ impl<'a> Asker<'a, '_> {
         }
         for tag in tags {
             let rule =
-                |model: &mut Model| store_rules::tag_delta(font, mvar as usize, tag, coords, model);
+                |rows: &mut Rows| store_rules::tag_delta(font, mvar as usize, tag, coords, rows);
             let arguments = || format!("offset {mvar}, tag {tag:08x}, coordinates {coords:?}");
             let raw = asked(|| {
                 let opened = shown::Mvar::new(font, mvar, coords);
@@ -478,7 +473,7 @@ impl<'a> Asker<'a, '_> {
             let through = scalars.map(|scalars| {
                 let ours = (scalars.delta_fixed(tag), scalars.delta(tag));
                 let base = mvar as usize;
-                let said = line_rules::tag_delta(font, base, tag, &said, &mut { RULES });
+                let said = line_rules::tag_delta(font, base, tag, &said, &mut { COUNTED });
                 (ours, said)
             });
             self.delta(functions, arguments, raw, float, ours, rule, through);
@@ -564,7 +559,7 @@ impl<'a> Asker<'a, '_> {
     ) {
         let font = self.font.data;
         let (base, index) = (table as usize, glyph as usize);
-        let rule = |model: &mut Model| store_rules::metric(font, base, map, index, coords, model);
+        let rule = |rows: &mut Rows| store_rules::metric(font, base, map, index, coords, rows);
         let arguments = || format!("offset {table}, glyph {glyph}, coordinates {coords:?}");
         let (raw, float, ours) = match map {
             Map::Advance => (
@@ -592,7 +587,7 @@ impl<'a> Asker<'a, '_> {
                 ),
                 Map::Bearing => (scalars.sb_delta_fixed(glyph), scalars.sb_delta(glyph)),
             };
-            let said = line_rules::metric(font, base, map, index, said, &mut { RULES });
+            let said = line_rules::metric(font, base, map, index, said, &mut { COUNTED });
             (ours, said)
         });
         let (raw, float) = (map_answer(raw, |d| d.0), map_answer(float, f32::to_bits));
@@ -600,8 +595,8 @@ impl<'a> Asker<'a, '_> {
     }
 
     /// A delta in its two forms. The raw one comes through the hook; its float must be the one that
-    /// the unchanged file answers, where 0.0 stands for `None` too. The second model is asked where it is
-    /// counted apart. Through a filled list it must be the same, and is judged again.
+    /// the unchanged file answers, where 0.0 stands for `None` too. The second model is asked where the
+    /// row is outside the item count. Through a filled list it must be the same, and is judged again.
     fn delta(
         &mut self,
         [fixed, float]: [Function; 2],
@@ -609,7 +604,7 @@ impl<'a> Asker<'a, '_> {
         rust: Rust<i32>,
         rust_float: Rust<u32>,
         ours: Ours,
-        rule: impl Fn(&mut Model) -> Answer<i64>,
+        rule: impl Fn(&mut Rows) -> Answer<i64>,
         through: Through,
     ) {
         let (alike, rust_float) = match (&rust, rust_float) {
@@ -622,19 +617,19 @@ impl<'a> Asker<'a, '_> {
             (_, rust_float) => (false, rust_float),
         };
         assert!(alike, "the hook and the float differ: {}", arguments());
-        let mut model = RULES;
-        let said = rule(&mut model);
-        let second = model.apart().map(|apart| (apart, rule(&mut { FORMER })));
+        let mut rows = COUNTED;
+        let said = rule(&mut rows);
+        let uncounted = rows.outside.then(|| rule(&mut { UNCOUNTED }));
         let raw = |said: Answer<i64>| said.map(|delta| delta as i32);
         let bits = |said: Answer<i64>| said.map(|delta| to_f32(delta as i128));
         let plain = Some(([fixed, float], ours, said));
         let through = through.map(|(ours, said)| ([fixed.with(), float.with()], ours, said));
         for ([fixed, float], ours, said) in plain.into_iter().chain(through) {
             let given = ours.0.map_err(Refusal::number);
-            let by_rules = (raw(said), second.map(|(apart, said)| (apart, raw(said))));
+            let by_rules = (raw(said), uncounted.map(raw));
             self.judge.delta(fixed, &arguments, rust, given, by_rules);
             let given = ours.1.map(f32::to_bits).map_err(Refusal::number);
-            let by_rules = (bits(said), second.map(|(apart, said)| (apart, bits(said))));
+            let by_rules = (bits(said), uncounted.map(bits));
             self.judge
                 .delta(float, &arguments, rust_float, given, by_rules);
         }

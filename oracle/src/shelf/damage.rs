@@ -1,5 +1,5 @@
 //! Damage: fields of the variation tables, or of those of widths, set to limits, bytes changed, the font cut, the
-//! directory moved; and the flag and the format byte of the new edition put into fonts that have neither.
+//! directory moved.
 
 use super::font::{
     record, u16_at, u32_at, FVAR, HHEA, HMTX, HVAR, LONG_RECORDS, MAXP, MVAR, VHEA, VMTX, VORG,
@@ -17,15 +17,6 @@ pub struct Damage {
 }
 
 impl Damage {
-    /// None yet, of a font of this length.
-    fn none(length: usize) -> Self {
-        Damage {
-            changes: vec![],
-            length,
-            cut: false,
-        }
-    }
-
     fn set(&mut self, data: &mut [u8], p: usize, bytes: &[u8]) {
         if let Some(there) = data.get_mut(p..p + bytes.len()) {
             self.changes.push((p, there.to_vec(), bytes.to_vec()));
@@ -67,9 +58,6 @@ pub struct Fields {
     maps: Vec<usize>,
     /// where MVAR's records have their two indices
     records: Vec<usize>,
-    /// where the subtables of stores have their word counts, and where maps have their formats
-    word_counts: Vec<usize>,
-    formats: Vec<usize>,
 }
 
 /// What an axis' numbers are damaged to, raw.
@@ -189,7 +177,6 @@ impl Fields {
                 if map == 8 {
                     self.maps.push(start + map);
                 }
-                self.formats.push(start + offset);
                 self.push(start + offset, &[0, 2, 0, 2], 2);
                 self.push(start + offset + 4, &[0, 1, 2, 3, 5, 8, 13, 21], 1);
             }
@@ -224,7 +211,6 @@ impl Fields {
         for k in 0..count.min(MOST) {
             self.push(store + 8 + 4 * k, &[0], 4);
             let subtable = store + u32_at(data, store + 8 + 4 * k).unwrap_or(0) as usize;
-            self.word_counts.push(subtable + 2);
             self.push(subtable, &[0, 2, 4, 2, 4, 6, 8, 10], 2);
             self.push(subtable + 10, &[0, 1, 2, 3, 4, 5, 6, 7], 1);
         }
@@ -248,47 +234,15 @@ impl Fields {
         }
     }
 
-    /// Whether there is a subtable or a map, into which the new edition can be put.
-    pub fn can_renew(&self) -> bool {
-        !self.word_counts.is_empty() || !self.formats.is_empty()
-    }
-
-    /// A font with the new edition put into most places: word counts with the flag, of which most are not too large,
-    /// and maps of format 1, whose count takes the first two bytes of the entries too. Half are then damaged.
-    pub fn renew(&self, data: &mut [u8], random: &mut Random) -> Damage {
-        let mut done = Damage::none(data.len());
-        for p in &self.word_counts {
-            let [old, count] = [*p, p + 2].map(|p| u16_at(data, p).unwrap_or(0));
-            let words = random.pick(&[old, 0, count / 2, count, count.wrapping_add(1)]);
-            if random.below(4) > 0 {
-                done.set(data, *p, &(0x8000 | words).to_be_bytes());
-            }
-        }
-        for p in &self.formats {
-            let old = u16_at(data, p + 2).unwrap_or(0) as u32;
-            let any = random.bits() as u32;
-            let count = random.pick(&[old, old, old | 0x1_0000, old << 16, any]);
-            if random.below(4) > 0 {
-                done.set(data, *p, &[1]);
-                done.set(data, p + 2, &count.to_be_bytes());
-            }
-        }
-        if random.below(2) == 0 {
-            self.change(data, random, &mut done);
-        }
-        done
-    }
-
     /// A font with a few of these changed; not where there are none.
     pub fn damage(&self, data: &mut [u8], random: &mut Random) -> Damage {
-        let mut done = Damage::none(data.len());
-        self.change(data, random, &mut done);
-        done
-    }
-
-    fn change(&self, data: &mut [u8], random: &mut Random, done: &mut Damage) {
+        let mut done = Damage {
+            changes: vec![],
+            length: data.len(),
+            cut: false,
+        };
         if random.below(3) == 0 {
-            self.fill(data, done);
+            self.fill(data, &mut done);
         }
         let kind = random.below(20);
         if kind < 2 {
@@ -332,6 +286,7 @@ impl Fields {
                 done.set(data, p, &[random.bits() as u8]);
             }
         }
+        done
     }
 }
 

@@ -1,7 +1,6 @@
 //! What is compared, and what counts as a difference. README.md has the table.
 
 use super::lists::Filling;
-use crate::apart::{self, Apart};
 use crate::axes::rules::Answer;
 use std::cell::Cell;
 use std::fmt::Debug;
@@ -129,12 +128,14 @@ pub struct Tally {
     pub stops: u64,
     /// the same where it has no counterpart
     pub silent: u64,
-    /// what the rules say, for each reason for which that is counted apart, whatever the Rust does
-    pub apart: apart::Counts,
+    /// refusal 3, where the row is outside its subtable's item count, whatever the Rust does
+    pub outside: u64,
+    /// what the rules say of an instance, where the Rust has another PostScript name id, and all else is the Rust's
+    pub other_name: u64,
     pub differences: u64,
 }
 
-pub const COLUMNS: [&str; 9] = [
+pub const COLUMNS: [&str; 8] = [
     "cases",
     "equal",
     "None",
@@ -142,7 +143,6 @@ pub const COLUMNS: [&str; 9] = [
     "Rust silent",
     "past count",
     "other name",
-    "new edition",
     "differences",
 ];
 
@@ -153,28 +153,32 @@ impl Tally {
         self.none += other.none;
         self.stops += other.stops;
         self.silent += other.silent;
-        self.apart.add(&other.apart);
+        self.outside += other.outside;
+        self.other_name += other.other_name;
         self.differences += other.differences;
     }
 
     pub fn columns(&self) -> [u64; COLUMNS.len()] {
-        let [past_count, other_name, new_edition] = self.apart.columns();
         [
             self.cases,
             self.equal,
             self.none,
             self.stops,
             self.silent,
-            past_count,
-            other_name,
-            new_edition,
+            self.outside,
+            self.other_name,
             self.differences,
         ]
     }
 }
 
-/// Why a case is counted apart, and what the Rust is held to there.
-pub type Second<T> = (Apart, Answer<T>);
+/// What the Rust is held to where the rules have another answer.
+enum Second<T> {
+    /// the rules without the item count
+    Uncounted(Answer<T>),
+    /// the rules with the Rust's PostScript name id
+    OtherName(Answer<T>),
+}
 
 /// Stands for a refusal that changed a lent list, which none may.
 pub const CHANGED: u8 = 255;
@@ -240,21 +244,22 @@ impl Judge {
         (said, theirs): (Answer<T>, Answer<T>),
         few_left: impl FnOnce() -> bool,
     ) {
-        let second = (said != theirs).then_some((Apart::OtherName, theirs));
+        let second = (said != theirs).then_some(Second::OtherName(theirs));
         self.case(function, arguments, rust, ours, (said, second), few_left);
     }
 
-    /// The same for a delta. Where it is counted apart there are two answers: ours is the rule's, and the Rust's that of
-    /// the second model.
+    /// The same for a delta. Where its row is outside the item count there are two answers: ours is the rule's, and the
+    /// Rust's that of the second model, which does not look at the count.
     pub fn delta<T: PartialEq + Debug>(
         &mut self,
         function: Function,
         arguments: impl Fn() -> String,
         rust: Rust<T>,
         ours: Answer<T>,
-        by_rules: (Answer<T>, Option<Second<T>>),
+        (said, uncounted): (Answer<T>, Option<Answer<T>>),
     ) {
-        self.case(function, arguments, rust, ours, by_rules, || false);
+        let second = uncounted.map(Second::Uncounted);
+        self.case(function, arguments, rust, ours, (said, second), || false);
     }
 
     fn case<T: PartialEq + Debug>(
@@ -268,7 +273,10 @@ impl Judge {
     ) {
         let tally = &mut self.tallies[function as usize];
         tally.cases += 1;
-        let theirs = second.as_ref().map_or(&said, |(_, theirs)| theirs);
+        let theirs = match &second {
+            Some(Second::Uncounted(theirs) | Second::OtherName(theirs)) => theirs,
+            None => &said,
+        };
         let (mut count, fits) = match &rust {
             Rust::Answer(answer) => (&mut tally.equal, theirs.as_ref() == Ok(answer)),
             Rust::None => (&mut tally.none, matches!(theirs, Err(1..=4))),
@@ -278,8 +286,10 @@ impl Judge {
             }
             Rust::Silent => (&mut tally.silent, matches!(theirs, Err(6..=7))),
         };
-        if let Some((apart, _)) = second {
-            count = tally.apart.of(apart);
+        match second {
+            Some(Second::Uncounted(_)) => count = &mut tally.outside,
+            Some(Second::OtherName(_)) => count = &mut tally.other_name,
+            None => (),
         }
         // the rules' answer is the Rust's where that answers, and there is no second one
         let same = ours == said;
@@ -298,8 +308,14 @@ impl Judge {
         println!("    {}, {}", FUNCTIONS[function as usize], arguments());
         println!("    ours {}", answer_text(&ours));
         println!("    the Rust {done}; the rules {}", answer_text(&said));
-        if let Some((apart, theirs)) = &second {
-            println!("    {} {}", apart.second(), answer_text(theirs));
+        match &second {
+            Some(Second::Uncounted(theirs)) => {
+                println!("    without the item count {}", answer_text(theirs))
+            }
+            Some(Second::OtherName(theirs)) => {
+                println!("    with the Rust's name id {}", answer_text(theirs))
+            }
+            None => (),
         }
     }
 }

@@ -2,10 +2,9 @@
 //! here do not read these tables; `oracle/swash` asks the whole of it.
 
 use super::font::Font;
-use crate::apart::{self, Apart};
 use crate::axes::rules::Answer;
 use crate::metrics::rules::Place;
-use crate::store::rules::{Map, RULES};
+use crate::store::rules::{Map, COUNTED};
 use crate::suolluvik::{self, Refusal};
 use crate::widths::rules::{self, Table};
 use std::fmt::Debug;
@@ -25,11 +24,10 @@ pub const FUNCTIONS: [&str; 9] = [
 const VMTX: usize = 4;
 const ORIGIN: usize = 8;
 
-pub const COLUMNS: [&str; 8] = [
+pub const COLUMNS: [&str; 7] = [
     "cases",
     "a value",
     "past count",
-    "new edition",
     "refused by 5",
     "refused by 1",
     "refused by 2",
@@ -40,8 +38,8 @@ pub const COLUMNS: [&str; 8] = [
 pub struct Tally {
     pub cases: u64,
     values: u64,
-    /// a value that is made of a delta that is counted apart
-    apart: apart::Counts,
+    /// a value, and a row past its subtable's item count is met
+    outside: u64,
     /// by 5, 1 and 2
     refused: [u64; 3],
     pub differences: u64,
@@ -51,7 +49,7 @@ impl Tally {
     pub fn add(&mut self, other: &Tally) {
         self.cases += other.cases;
         self.values += other.values;
-        self.apart.add(&other.apart);
+        self.outside += other.outside;
         for (sum, more) in self.refused.iter_mut().zip(other.refused) {
             *sum += more;
         }
@@ -60,12 +58,11 @@ impl Tally {
 
     pub fn columns(&self) -> [u64; COLUMNS.len()] {
         let [by_5, by_1, by_2] = self.refused;
-        let [past_count, _, new_edition] = self.apart.columns();
+        let (values, outside) = (self.values, self.outside);
         [
             self.cases,
-            self.values,
-            past_count,
-            new_edition,
+            values,
+            outside,
             by_5,
             by_1,
             by_2,
@@ -114,17 +111,17 @@ impl Reading {
         arguments: impl Fn() -> String,
         ours: Answer<T>,
         said: Answer<T>,
-        apart: Option<Apart>,
+        outside: bool,
     ) {
         let tally = &mut self.tallies[function];
         tally.cases += 1;
-        let place = match (&said, apart) {
-            (Ok(_), Some(apart)) => Some(tally.apart.of(apart)),
-            (Ok(_), None) => Some(&mut tally.values),
-            (Err(5), _) => Some(&mut tally.refused[0]),
-            (Err(1), _) => Some(&mut tally.refused[1]),
-            (Err(2), _) => Some(&mut tally.refused[2]),
-            (Err(_), _) => None,
+        let place = match said {
+            Ok(_) if outside => Some(&mut tally.outside),
+            Ok(_) => Some(&mut tally.values),
+            Err(5) => Some(&mut tally.refused[0]),
+            Err(1) => Some(&mut tally.refused[1]),
+            Err(2) => Some(&mut tally.refused[2]),
+            Err(_) => None,
         };
         match place {
             Some(count) if ours == said => *count += 1,
@@ -181,10 +178,10 @@ impl Reading {
         let arguments = || format!("offset {at}, count {count}, glyph {glyph}");
         let advance = suolluvik::xmtx_advance(font, at, count, glyph);
         let said = rules::xmtx_advance(font, table, glyph);
-        self.case(first, arguments, ours(advance, |n| n), said, None);
+        self.case(first, arguments, ours(advance, |n| n), said, false);
         let sb = suolluvik::xmtx_sb(font, at, count, glyph);
         let said = rules::xmtx_sb(font, table, glyph);
-        self.case(first + 1, arguments, ours(sb, |n| n), said, None);
+        self.case(first + 1, arguments, ours(sb, |n| n), said, false);
     }
 
     fn adjusted(
@@ -198,26 +195,26 @@ impl Reading {
     ) {
         let Table { at, count, xvar } = table;
         let said = |map| {
-            let mut place = Place::new(font, coords, RULES);
+            let mut place = Place::new(font, coords, COUNTED);
             let width = rules::adjusted(&mut place, table, map, glyph, scale).map(bits);
-            (width, place.model.apart())
+            (width, place.rows.outside)
         };
         let arguments = || {
             let tables = format!("offset {at}, count {count}, deltas at {xvar}");
             format!("{tables}, glyph {glyph}, coordinates {coords:?}, scale {scale:?}")
         };
         let advance = suolluvik::adjusted_advance(font, at, count, xvar, glyph, coords, scale);
-        let (width, apart) = said(Map::Advance);
-        self.case(first + 2, arguments, ours(advance, bits), width, apart);
+        let (width, outside) = said(Map::Advance);
+        self.case(first + 2, arguments, ours(advance, bits), width, outside);
         let sb = suolluvik::adjusted_sb(font, at, count, xvar, glyph, coords, scale);
-        let (bearing, apart) = said(Map::Bearing);
-        self.case(first + 3, arguments, ours(sb, bits), bearing, apart);
+        let (bearing, outside) = said(Map::Bearing);
+        self.case(first + 3, arguments, ours(sb, bits), bearing, outside);
     }
 
     fn origin(&mut self, font: &[u8], vorg: u32, glyph: u16) {
         let arguments = || format!("offset {vorg}, glyph {glyph}");
         let origin = suolluvik::vorg_origin(font, vorg, glyph);
         let said = rules::vorg_origin(font, vorg, glyph);
-        self.case(ORIGIN, arguments, ours(origin, |n| n), said, None);
+        self.case(ORIGIN, arguments, ours(origin, |n| n), said, false);
     }
 }

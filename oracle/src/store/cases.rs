@@ -2,10 +2,9 @@
 //! byte, every kind of triple, map, count and offset, and random fonts, whole, damaged and cut.
 
 pub mod counts;
-pub mod edition;
 
 use super::{FUNCTIONS, NEW};
-use crate::random::{every_nth, spread, Random};
+use crate::random::Random;
 use crate::text;
 
 /// A region: start, peak and end for each axis.
@@ -16,50 +15,34 @@ pub struct Subtable {
     pub item_count: u16,
     pub word_count: u16,
     pub indices: Vec<u16>,
-    /// an entry has its low bytes alone, as many as it is long
-    pub rows: Vec<Vec<i32>>,
-    /// whether the entries are as long as the flag says, and the word count has it; else the flag is a part of
-    /// the count
-    pub flagged: bool,
+    /// an entry has its low byte alone where it is behind the words
+    pub rows: Vec<Vec<i16>>,
 }
 
 impl Subtable {
-    /// Of as many rows as the item count says.
-    pub fn of(word_count: u16, indices: &[u16], rows: &[&[i32]]) -> Self {
-        Subtable {
-            item_count: rows.len() as u16,
-            word_count,
-            indices: indices.to_vec(),
-            rows: rows.iter().map(|row| row.to_vec()).collect(),
-            flagged: false,
-        }
-    }
-
     /// Of one row, that names the regions in turn.
-    pub fn of_row(word_count: u16, row: &[i32]) -> Self {
-        let indices: Vec<u16> = (0..row.len() as u16).collect();
-        Subtable::of(word_count, &indices, &[row])
-    }
-
-    /// How many entries are wide, and how many bytes a narrow one has.
-    fn words(&self) -> (usize, usize) {
-        match self.flagged {
-            true => (self.word_count as usize % 0x8000, 2),
-            false => (self.word_count as usize, 1),
+    pub fn of_row(word_count: u16, row: &[i16]) -> Self {
+        Subtable {
+            item_count: 1,
+            word_count,
+            indices: (0..row.len() as u16).collect(),
+            rows: vec![row.to_vec()],
         }
     }
 
-    pub fn bytes(&self) -> Vec<u8> {
+    fn bytes(&self) -> Vec<u8> {
         let mut bytes = vec![];
         let head = [self.item_count, self.word_count, self.indices.len() as u16];
         for half in head.iter().chain(&self.indices) {
             bytes.extend(half.to_be_bytes());
         }
-        let (words, unit) = self.words();
         for row in &self.rows {
             for (k, entry) in row.iter().enumerate() {
-                let size = if k < words { 2 * unit } else { unit };
-                bytes.extend(&entry.to_be_bytes()[4 - size..]);
+                if k < self.word_count as usize {
+                    bytes.extend(entry.to_be_bytes());
+                } else {
+                    bytes.push(*entry as u8);
+                }
             }
         }
         bytes
@@ -117,9 +100,7 @@ impl Store {
 #[derive(Clone)]
 pub struct Map {
     format: u16,
-    count: u32,
-    /// whether the count has four bytes; else two
-    long_count: bool,
+    count: u16,
     entries: Vec<u32>,
 }
 
@@ -127,8 +108,7 @@ impl Map {
     pub fn of(size: u16, inner_bits: u16, entries: &[u32]) -> Self {
         Map {
             format: (size - 1) << 4 | (inner_bits - 1),
-            count: entries.len() as u32,
-            long_count: false,
+            count: entries.len() as u16,
             entries: entries.to_vec(),
         }
     }
@@ -136,8 +116,7 @@ impl Map {
     pub fn bytes(&self) -> Vec<u8> {
         let size = (self.format >> 4 & 3) as usize + 1;
         let mut bytes = self.format.to_be_bytes().to_vec();
-        let count_size = if self.long_count { 4 } else { 2 };
-        bytes.extend(&self.count.to_be_bytes()[4 - count_size..]);
+        bytes.extend(self.count.to_be_bytes());
         for entry in &self.entries {
             bytes.extend(&entry.to_be_bytes()[4 - size..]);
         }
@@ -166,17 +145,6 @@ pub fn hvar(advance: Option<&Map>, bearing: Option<&Map>, store: &Store) -> Vec<
     bytes.extend(behind);
     bytes.extend(store.bytes());
     bytes
-}
-
-/// A font with an HVAR whose map, for advances and bearings alike, lies behind the store, where a cut meets it.
-pub fn hvar_with_map_last(map: &Map, store: &Store) -> Vec<u8> {
-    let store = store.bytes();
-    let end = 20 + store.len() as u32;
-    let mut bytes = vec![0, 0, 0, 0, 0, 1, 0, 0];
-    for field in [20, end, end, 0] {
-        bytes.extend(field.to_be_bytes());
-    }
-    [bytes, store, map.bytes()].concat()
 }
 
 /// A record of an MVAR: a tag, then inner and outer index.
@@ -235,19 +203,9 @@ pub const TAGS: [u32; 6] = [
 /// A font, and what is asked of it: a name, and what stands behind the font.
 pub struct Asked {
     pub font: Vec<u8>,
-    pub questions: Vec<Question>,
+    pub questions: Vec<(&'static str, String)>,
     /// whether it is asked at every length
     pub cut: bool,
-}
-
-pub type Question = (&'static str, String);
-
-pub fn asked(font: Vec<u8>, questions: Vec<Question>, cut: bool) -> Asked {
-    Asked {
-        font,
-        questions,
-        cut,
-    }
 }
 
 pub fn coords_text(coords: &[i16]) -> String {
@@ -255,19 +213,19 @@ pub fn coords_text(coords: &[i16]) -> String {
 }
 
 /// All four forms for a glyph.
-fn of_glyph(base: usize, glyph: usize, coords: &[i16]) -> Vec<Question> {
+fn of_glyph(base: usize, glyph: usize, coords: &[i16]) -> Vec<(&'static str, String)> {
     let rest = format!(" {base} {glyph} {}", coords_text(coords));
     ["advance_fixed", "sb_fixed", "advance_delta", "sb_delta"]
         .map(|name| (name, rest.clone()))
         .to_vec()
 }
 
-fn of_item(store: usize, outer: u32, inner: u16, coords: &[i16]) -> Question {
+fn of_item(store: usize, outer: u32, inner: u16, coords: &[i16]) -> (&'static str, String) {
     let coords = coords_text(coords);
     ("item_delta", format!(" {store} {outer} {inner} {coords}"))
 }
 
-fn of_tag(offset: usize, tag: u32, coords: &[i16]) -> Vec<Question> {
+fn of_tag(offset: usize, tag: u32, coords: &[i16]) -> Vec<(&'static str, String)> {
     let rest = format!(" {offset} {tag:08x} {}", coords_text(coords));
     ["mvar_fixed", "mvar_delta"]
         .map(|name| (name, rest.clone()))
@@ -276,7 +234,7 @@ fn of_tag(offset: usize, tag: u32, coords: &[i16]) -> Vec<Question> {
 
 /// Stores of none to four axes, of no to three regions, rows of words and bytes mixed.
 pub fn stores() -> Vec<Store> {
-    let row = |words, row: &[i32]| Subtable::of_row(words, row);
+    let row = |words, row: &[i16]| Subtable::of_row(words, row);
     let mut stores = vec![
         Store::of_one(&[&[RISE]], row(0, &[100])),
         Store::of_one(&[&[HILL]], row(0, &[3])),
@@ -292,8 +250,12 @@ pub fn stores() -> Vec<Store> {
     ];
     // two rows, regions named twice and not in order, and a subtable of its own
     let mut two = Store::of_one(&[&[RISE], &[FALL]], row(0, &[9]));
-    let rows: [&[i32]; 2] = [&[256, -257, 3], &[-1, 2, -4]];
-    two.subtables.push(Subtable::of(2, &[1, 0, 1], &rows));
+    two.subtables.push(Subtable {
+        item_count: 2,
+        word_count: 2,
+        indices: vec![1, 0, 1],
+        rows: vec![vec![256, -257, 3], vec![-1, 2, -4]],
+    });
     stores.push(two);
     // an item count of 1, and bytes for a second row
     let mut counted = Store::of_one(&[&[[0, 0, 0]]], row(0, &[100]));
@@ -417,7 +379,7 @@ fn maps() -> Vec<Asked> {
     store.subtables[0].rows = [10, 20, 30, -40].map(|entry| vec![entry]).to_vec();
     store.subtables.push(Subtable::of_row(1, &[1234]));
     for n in 0..64 * 5 {
-        let (low, count) = (n % 64, (n / 64) as u32);
+        let (low, count) = (n % 64, (n / 64) as u16);
         let bits = low % 16 + 1;
         let outer = |outer: u64, inner: u64| (outer << bits | inner) as u32;
         let entries = [
@@ -431,7 +393,6 @@ fn maps() -> Vec<Asked> {
             let map = Map {
                 format: low as u16 | high,
                 count,
-                long_count: false,
                 entries: entries[..count as usize].to_vec(),
             };
             let other = Map {
@@ -702,8 +663,8 @@ fn subtable(regions: u64, random: &mut Random) -> Subtable {
         _ => random.below(regions.max(1)),
     };
     let indices: Vec<u16> = (0..count).map(|_| index(random) as u16).collect();
-    let rows: Vec<Vec<i32>> = (0..1 + random.below(4))
-        .map(|_| (0..count).map(|_| half(random).into()).collect())
+    let rows: Vec<Vec<i16>> = (0..1 + random.below(4))
+        .map(|_| (0..count).map(|_| half(random)).collect())
         .collect();
     Subtable {
         item_count: if random.below(4) == 0 {
@@ -714,7 +675,6 @@ fn subtable(regions: u64, random: &mut Random) -> Subtable {
         word_count: word_count as u16,
         indices,
         rows,
-        flagged: false,
     }
 }
 
@@ -819,8 +779,7 @@ fn map(store: &Store, row_of: RowOf, random: &mut Random) -> Map {
     };
     Map {
         format: format | random.pick(&[0, 0, 0, 0x40, 0x80, 0x0100, 0xff00]),
-        count: count as u32,
-        long_count: false,
+        count: count as u16,
         entries: (0..count).map(|_| entry(random)).collect(),
     }
 }
@@ -901,17 +860,11 @@ fn item_case(store: &Store, row_of: RowOf, random: &mut Random) -> String {
 }
 
 pub fn glyph_case(name: &str, random: &mut Random) -> String {
-    let map_of = |store: &Store, random: &mut Random| map(store, row_of, random);
-    glyph_case_of(name, &store(random), map_of, random)
+    glyph_case_of(name, &store(random), row_of, random)
 }
 
-fn glyph_case_of(
-    name: &str,
-    store: &Store,
-    map_of: impl Fn(&Store, &mut Random) -> Map,
-    random: &mut Random,
-) -> String {
-    let maps = [map_of(store, random), map_of(store, random)];
+fn glyph_case_of(name: &str, store: &Store, row_of: RowOf, random: &mut Random) -> String {
+    let maps = [map(store, row_of, random), map(store, row_of, random)];
     // a bearing has no delta without a map
     let bearings = name.starts_with("sb");
     let [advance, bearing] =
@@ -919,7 +872,7 @@ fn glyph_case_of(
     let [a, b] = &maps;
     let font = hvar(advance.then_some(a), bearing.then_some(b), store);
     let font = damaged(font, random);
-    let entries = if bearings { &b.entries } else { &a.entries }.len() as u64;
+    let entries = if bearings { b.count } else { a.count } as u64;
     let glyph = match random.below(16) {
         0 => random.below(65536),
         1 => 65535,
@@ -929,15 +882,6 @@ fn glyph_case_of(
     let coords = coords(store, random);
     let base = offset(BASE, &font, random);
     line(name, &font, &format!(" {base} {glyph} {coords}"))
-}
-
-/// An advance of a table without a map: the glyph is a row of the first subtable.
-fn without_map(name: &str, mut store: Store, row_of: RowOf, random: &mut Random) -> String {
-    store.subtables.truncate(1);
-    let font = damaged(hvar(None, None, &store), random);
-    let (_, glyph) = row_of(&store, random);
-    let coords = coords(&store, random);
-    line(name, &font, &format!(" {BASE} {glyph} {coords}"))
 }
 
 /// An MVAR whose records have these tags, or the next ones.
@@ -1020,12 +964,12 @@ impl Cases {
 
 /// Every fourth case is one of item counts.
 pub fn with_counts(seed: u64) -> impl Iterator<Item = String> {
-    every_nth(4, Cases::new(seed), counts::cases(seed))
-}
-
-/// Every fifth case is one of the new edition.
-pub fn with_edition(seed: u64) -> impl Iterator<Item = String> {
-    every_nth(5, with_counts(seed), edition::cases(seed))
+    let mut others = Cases::new(seed);
+    let mut counts = counts::cases(seed);
+    (0..).map_while(move |turn: u64| match turn % 4 {
+        3 => counts.next(),
+        _ => others.next(),
+    })
 }
 
 impl Iterator for Cases {

@@ -4,7 +4,6 @@
 use super::rules::{place, skipped, triple, Map};
 use crate::text;
 use std::collections::BTreeSet;
-use std::ops::RangeInclusive;
 
 /// A read, or a triple, which has its axis. It lies in the font: one that is empty is left out.
 #[derive(Clone, Debug, PartialEq)]
@@ -32,9 +31,6 @@ impl Footprint {
         covered
     }
 }
-
-/// An entry of 32 bits outside is refused, once it is read.
-const HELD: RangeInclusive<i32> = -32768..=32767;
 
 /// The reads in the stated order, each a part. `None` is a refusal met outside the triples: what
 /// would come after it is empty.
@@ -80,13 +76,11 @@ impl Walk<'_> {
         let region_count = self.read(regions + 2, 2)?;
         let subtable = store + self.read(store + 8 + 4 * outer, 4)?;
         let index_count = self.read(subtable + 4, 2)?;
-        let field = self.read(subtable + 2, 2)?;
-        // with the flag the count is the low 15 bits, and each entry twice as long
-        let (word_count, unit) = (field % 0x8000, 1 + field / 0x8000);
+        let word_count = self.read(subtable + 2, 2)?;
         refused_if(word_count > index_count)?;
         let item_count = self.read(subtable, 2)?;
         refused_if(inner >= item_count)?;
-        let row = subtable + 6 + 2 * index_count + inner * unit * (index_count + word_count);
+        let row = subtable + 6 + 2 * index_count + inner * (index_count + word_count);
         for k in 0..index_count {
             let region = self.read(subtable + 6 + 2 * k, 2)?;
             refused_if(region >= region_count)?;
@@ -94,17 +88,16 @@ impl Walk<'_> {
                 self.triple(regions + 4 + 6 * (region * axis_count + axis), axis);
             }
             if k < word_count {
-                let entry = self.read(row + 2 * unit * k, 2 * unit)?;
-                refused_if(unit == 2 && !HELD.contains(&(entry as u32 as i32)))?;
+                self.read(row + 2 * k, 2)?;
             } else {
-                self.read(row + unit * (word_count + k), unit)?;
+                self.read(row + word_count + k, 1)?;
             }
         }
         Some(())
     }
 
-    /// base + 4..+ 11 (bearing: + 4..+ 7, + 12..+ 15); the map's first four bytes, in format 1 its first
-    /// six, and the used entry; then the store's.
+    /// base + 4..+ 11 (bearing: + 4..+ 7, + 12..+ 15); the map's first four bytes and the used entry;
+    /// then the store's.
     fn metric(&mut self, base: usize, map: Map, glyph: usize) -> Option<()> {
         refused_if(base == 0)?;
         let offset = self.read(base + 4, 4)?;
@@ -118,18 +111,12 @@ impl Walk<'_> {
         }
         let map = base + offset;
         let format = self.read(map, 2)?;
-        // how long the count is, and how many outer indices there are
-        let (count_size, outers) = match format / 256 {
-            1 => (4, 1 << 32),
-            _ => (2, 1 << 16),
-        };
-        let count = self.read(map + 2, count_size)?;
+        let count = self.read(map + 2, 2)?;
         refused_if(count == 0)?;
         let size = format / 16 % 4 + 1;
-        let entry = map + 2 + count_size + size * glyph.min(count - 1);
-        let entry = self.read(entry, size)?;
+        let entry = self.read(map + 4 + size * glyph.min(count - 1), size)?;
         let inners = 1 << (format % 16 + 1);
-        self.item(store, entry / inners % outers, entry % inners)
+        self.item(store, entry / inners % 65536, entry % inners)
     }
 
     /// From the table's start: bytes 6..11, of each record's first eight bytes those in the font, then
@@ -198,13 +185,6 @@ pub fn font(bytes: &str) -> Vec<u8> {
     text::bytes(&bytes).expect("bytes in hex")
 }
 
-/// A font with these bytes in the place of those at a position.
-fn with(font: &[u8], at: usize, bytes: &str) -> Vec<u8> {
-    let (mut font, bytes) = (font.to_vec(), self::font(bytes));
-    font[at..at + bytes.len()].copy_from_slice(&bytes);
-    font
-}
-
 /// Asserts that a footprint covers just these bytes, from the first to the last of each pair, and
 /// uses just these axes.
 pub fn is(footprint: Footprint, font: &[u8], bytes: &[(usize, usize)], axes: &[usize]) {
@@ -230,9 +210,6 @@ pub fn by_hand() {
     refused();
     cut();
     mvar();
-    flagged();
-    flagged_behind_a_cut();
-    format_1();
 }
 
 fn examples() {
@@ -269,12 +246,13 @@ fn refused() {
         (42, "0000", &[(8, 15), (22, 35), (42, 47)]),
         (48, "0001", &[(8, 15), (22, 35), (42, 49)]),
     ];
-    let s1 = font(S1);
     for (at, number, bytes) in changes {
-        let s1 = with(&s1, at, number);
+        let (mut s1, number) = (font(S1), font(number));
+        s1[at..at + number.len()].copy_from_slice(&number);
         is(advance(&s1, 0), &s1, bytes, &[]);
     }
     // a row outside the count is refused by the count, whatever lies behind it
+    let s1 = font(S1);
     for font in [&s1[..], &s1[..48]] {
         is(advance(font, 1), font, &[(8, 15), (22, 35), (42, 47)], &[]);
     }
@@ -333,84 +311,4 @@ fn mvar() {
         is(tag(&refused, 2, hasc), &refused, &[(8, 13)], &[]);
     }
     is(tag(&mvar[..13], 2, hasc), &mvar[..13], &[(8, 11)], &[]);
-}
-
-/// Two rows of a flagged subtable, each of a wide entry and a narrow one.
-fn flagged() {
-    let two = font(
-        "00000000 00010000 00000010 00000000 00000000 0001 0000000c 0001 0000001c
-         0001 0002 0000 4000 4000 0000 4000 4000
-         0002 8001 0002 0000 0001 00000064 0005 ffff8000 8000",
-    );
-    let bytes = [(8, 15), (22, 57), (64, 69)];
-    is(advance(&two, 1), &two, &bytes, &[0]);
-    let parts = advance(&two, 1).parts;
-    let header = [(8, 4), (12, 4), (26, 2), (22, 4), (32, 2), (34, 2), (28, 4)];
-    let counts = [(52, 2), (50, 2), (48, 2)];
-    let row = [(54, 2), (36, 6), (64, 4), (56, 2), (42, 6), (68, 2)];
-    let places = [&header[..], &counts, &row].concat();
-    assert!(parts.iter().map(|part| (part.at, part.size)).eq(places));
-    // an entry that can be held, and one that can't: it is covered, and nothing that would follow
-    for entry in ["00000064", "00007fff", "ffff8000"] {
-        let held = with(&two, 58, entry);
-        is(advance(&held, 0), &held, &[(8, 15), (22, 63)], &[0]);
-    }
-    for entry in ["00008000", "ffff7fff"] {
-        let refused = with(&two, 58, entry);
-        let bytes = [(8, 15), (22, 41), (48, 55), (58, 61)];
-        is(advance(&refused, 0), &refused, &bytes, &[0]);
-    }
-    // the word count is the low 15 bits: too large, before the item count; none
-    let refused = with(&two, 50, "8003");
-    let bytes = [(8, 15), (22, 35), (50, 53)];
-    is(advance(&refused, 0), &refused, &bytes, &[]);
-    let narrow = with(&two, 50, "8000");
-    let bytes = [(8, 15), (22, 57), (62, 65)];
-    is(advance(&narrow, 1), &narrow, &bytes, &[0]);
-    // the wide entry cut, and the narrow one
-    let (wide, narrow) = (&two[..61], &two[..63]);
-    let bytes = [(8, 15), (22, 41), (48, 55)];
-    is(advance(wide, 0), wide, &bytes, &[0]);
-    is(advance(narrow, 0), narrow, &[(8, 15), (22, 61)], &[0]);
-}
-
-/// A flagged row before its regions. The first that it names has a cut triple, and the walk goes on to the entry.
-fn flagged_behind_a_cut() {
-    let cut = font(
-        "00000000 00010000 00000010 00000000 00000000 0001 0000001c 0001 0000000c
-         0001 8001 0002 0001 0000 00000007 0005
-         0001 0002 0000 4000 4000 0000 4000",
-    );
-    is(advance(&cut, 0), &cut, &[(8, 15), (22, 57)], &[0]);
-    let refused = with(&cut, 42, "00008000");
-    let bytes = [(8, 15), (22, 39), (42, 45), (48, 51)];
-    is(advance(&refused, 0), &refused, &bytes, &[]);
-}
-
-/// H1 with a map of format 1.
-fn format_1() {
-    let h1 = font(
-        "00000000 00010000 0000001a 00000010 00000000 0107 00000003 000102 00
-         0001 0000000c 0001 00000010 0000 0001 0003 0000 0001 0000 0a0b0c",
-    );
-    let bytes = [(8, 15), (20, 25), (28, 28), (32, 53), (56, 56)];
-    is(advance(&h1, 3), &h1, &bytes, &[]);
-    let parts = advance(&h1, 3).parts;
-    let map = parts[2..5].iter().map(|part| (part.at, part.size));
-    assert!(map.eq([(20, 2), (22, 4), (28, 1)]));
-    // no entries; an entry past the end; the count cut
-    let bytes = [(8, 15), (20, 25)];
-    for count in ["00000000", "00010000"] {
-        let refused = with(&h1, 22, count);
-        is(advance(&refused, 65535), &refused, &bytes, &[]);
-    }
-    let cut = &h1[..25];
-    is(advance(cut, 0), cut, &[(8, 15), (20, 21)], &[]);
-    // an outer index of 65536: of format 1 it is refused by the subtable count, of format 2 it is 0
-    let outer = with(&h1, 20, "0130 00000001 00020000");
-    let bytes = [(8, 15), (20, 29), (36, 37)];
-    is(advance(&outer, 0), &outer, &bytes, &[]);
-    let outer = with(&h1, 20, "0230 0001 00020000");
-    let bytes = [(8, 15), (20, 27), (32, 54)];
-    is(advance(&outer, 0), &outer, &bytes, &[]);
 }

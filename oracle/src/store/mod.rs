@@ -14,7 +14,7 @@ use crate::tags::TAGS;
 use crate::text;
 use crate::{Expected, Rust};
 use footprint::Footprint;
-use rules::{Map, Model, FORMER, RULES};
+use rules::{Map, Rows, COUNTED, UNCOUNTED};
 
 #[derive(Clone, Copy, PartialEq)]
 pub enum Kind {
@@ -169,7 +169,7 @@ impl Case {
     }
 
     /// What the rules say: a delta, or the numbers of an MVAR that opens.
-    fn by_rules(&self, model: &mut Model) -> Answer<Vec<i64>> {
+    fn by_rules(&self, rows: &mut Rows) -> Answer<Vec<i64>> {
         let (font, coords) = (&self.font[..], &self.coords[..]);
         let n: Vec<usize> = self.numbers.iter().map(|n| *n as usize).collect();
         let delta = match self.name {
@@ -178,15 +178,13 @@ impl Case {
                 let numbers = [mvar.record_size, mvar.record_count, mvar.store];
                 return Ok(numbers.map(|n| n as i64).to_vec());
             }
-            "item_delta" => rules::item(font, n[0], n[1], n[2], coords, model)?,
+            "item_delta" => rules::item(font, n[0], n[1], n[2], coords, rows)?,
             "advance_fixed" | "advance_delta" => {
-                rules::metric(font, n[0], Map::Advance, n[1], coords, model)?
+                rules::metric(font, n[0], Map::Advance, n[1], coords, rows)?
             }
-            "sb_fixed" | "sb_delta" => {
-                rules::metric(font, n[0], Map::Bearing, n[1], coords, model)?
-            }
+            "sb_fixed" | "sb_delta" => rules::metric(font, n[0], Map::Bearing, n[1], coords, rows)?,
             "mvar_fixed" | "mvar_delta" => {
-                rules::tag_delta(font, n[0], self.numbers[1], coords, model)?
+                rules::tag_delta(font, n[0], self.numbers[1], coords, rows)?
             }
             _ => unreachable!(),
         };
@@ -225,13 +223,13 @@ impl Case {
 
     pub fn expected(&self) -> Expected {
         let rust = Rust::of(|| self.rust().unwrap_or(Rust::None));
-        let mut model = RULES;
-        let said = self.by_rules(&mut model);
+        let mut rows = COUNTED;
+        let said = self.by_rules(&mut rows);
         let rule = self.text(&said);
-        let apart = model.apart();
-        let theirs = match apart {
-            Some(_) => self.by_rules(&mut { FORMER }),
-            None => said,
+        // Of a row outside the item count the Rust is held to the bytes that lie there.
+        let theirs = match rows.outside {
+            true => self.by_rules(&mut { UNCOUNTED }),
+            false => said,
         };
         // `None` is one of 1 to 4; of a float, and of opening, it is an MVAR that doesn't open: 1 or 2. A stop is 5.
         // An outer index that the Rust can't be given is 3, or what comes before.
@@ -247,7 +245,8 @@ impl Case {
             rust,
             rule,
             agree,
-            apart,
+            outside: rows.outside,
+            other_name: false,
         }
     }
 }
@@ -277,6 +276,7 @@ pub fn tags(line: &str) -> Option<Expected> {
         agree: rust == rule,
         rust: Rust::Answer(rust),
         rule,
-        apart: None,
+        outside: false,
+        other_name: false,
     })
 }

@@ -2,7 +2,6 @@
 //! integers. Nothing here is taken from the Rust or from the Rattle, so that it judges both. A
 //! refusal is its number.
 
-use crate::apart::Apart;
 use crate::axes::rules::{unsigned, Answer};
 use crate::numbers::rules::{div, from_f2dot14, mul, wrap32};
 
@@ -59,42 +58,25 @@ fn scalar(font: &[u8], p: usize, axis_count: usize, coords: &[i16]) -> Answer<i1
     Ok(scalar)
 }
 
-/// Which of two models answers, and what it has met that they take differently.
+/// What becomes of a row outside its subtable's item count, and whether one was met.
 #[derive(Clone, Copy)]
-pub struct Model {
-    /// whether it is the rules
-    pub by_rules: bool,
-    /// a row outside its subtable's item count
-    outside: bool,
-    /// a map of format 1, or a word count with the flag
-    new_edition: bool,
+pub struct Rows {
+    pub counted: bool,
+    pub outside: bool,
 }
 
-/// The rules. OpenType has no item outside the count: such a row is refused by 3.
-pub const RULES: Model = Model {
-    by_rules: true,
+/// The rule: OpenType has no such item, and the row is refused by 3.
+pub const COUNTED: Rows = Rows {
+    counted: true,
     outside: false,
-    new_edition: false,
 };
 
-/// A second model, for the Rust, which looks at no item count, where the bytes that lie there are the row; nor at a
-/// map's format byte; and to which the flag is a part of the word count. These were document 01's rules before
-/// W-201 and W-206.
-pub const FORMER: Model = Model {
-    by_rules: false,
-    ..RULES
+/// A second model, for the Rust, which does not look at the count: the bytes that lie there are the
+/// row. It was document 01's rule before W-201.
+pub const UNCOUNTED: Rows = Rows {
+    counted: false,
+    outside: false,
 };
-
-impl Model {
-    /// Why what it answers is counted apart: the new edition comes before a row outside the count.
-    pub fn apart(&self) -> Option<Apart> {
-        match (self.new_edition, self.outside) {
-            (true, _) => Some(Apart::NewEdition),
-            (_, true) => Some(Apart::PastCount),
-            _ => None,
-        }
-    }
-}
 
 /// A store's list of regions: where the first one's triples are, and its two counts.
 pub struct Regions {
@@ -126,30 +108,7 @@ pub struct Row {
     indices: usize,
     index_count: usize,
     word_count: usize,
-    /// how many bytes a narrow entry has; one of the words has twice as many
-    unit: usize,
     entries: usize,
-}
-
-/// A word count with this flag is its low 15 bits, and every entry has twice as many bytes.
-const LONG_WORDS: usize = 0x8000;
-
-/// The word count and the unit of a field.
-fn words(field: usize, model: &mut Model) -> (usize, usize) {
-    let flagged = field >= LONG_WORDS;
-    model.new_edition |= flagged;
-    match flagged && model.by_rules {
-        true => (field - LONG_WORDS, 2),
-        false => (field, 1),
-    }
-}
-
-/// An entry that 16.16 can't hold is refused by 8. One of 16 bits or 8 it always holds.
-fn held(entry: i128) -> Answer<i128> {
-    match entry {
-        -32768..=32767 => Ok(entry),
-        _ => Err(8),
-    }
 }
 
 impl Row {
@@ -160,7 +119,7 @@ impl Row {
         store: usize,
         outer: usize,
         inner: usize,
-        model: &mut Model,
+        rows: &mut Rows,
     ) -> Answer<Self> {
         if store == 0 {
             return Err(1);
@@ -172,13 +131,13 @@ impl Row {
         let regions = Regions::of(font, store)?;
         let subtable = store + place(font, store + 8 + 4 * outer, 4)?;
         let index_count = place(font, subtable + 4, 2)?;
-        let (word_count, unit) = words(place(font, subtable + 2, 2)?, model);
+        let word_count = place(font, subtable + 2, 2)?;
         if word_count > index_count {
             return Err(5);
         }
         if inner >= place(font, subtable, 2)? {
-            model.outside = true;
-            if model.by_rules {
+            rows.outside = true;
+            if rows.counted {
                 return Err(3);
             }
         }
@@ -188,13 +147,12 @@ impl Row {
             indices,
             index_count,
             word_count,
-            unit,
-            entries: indices + 2 * index_count + inner * unit * (index_count + word_count),
+            entries: indices + 2 * index_count + inner * (index_count + word_count),
         })
     }
 
     /// For each region index in turn: read it, refuse 3 if too large, have the region's scalar, then read
-    /// the entry, refuse 8 if it can't be held.
+    /// the entry.
     pub fn sum(&self, font: &[u8], scalar: impl Fn(usize) -> Answer<i128>) -> Answer<i64> {
         let mut entry = self.entries;
         let mut sum = 0;
@@ -204,8 +162,8 @@ impl Row {
                 return Err(3);
             }
             let scalar = scalar(region)?;
-            let size = self.unit * if k < self.word_count { 2 } else { 1 };
-            sum += scalar * held(signed(font, entry, size)?)?;
+            let size = if k < self.word_count { 2 } else { 1 };
+            sum += scalar * signed(font, entry, size)?;
             entry += size;
         }
         Ok(wrap32(sum))
@@ -219,9 +177,9 @@ pub fn item(
     outer: usize,
     inner: usize,
     coords: &[i16],
-    model: &mut Model,
+    rows: &mut Rows,
 ) -> Answer<i64> {
-    let row = Row::of(font, store, outer, inner, model)?;
+    let row = Row::of(font, store, outer, inner, rows)?;
     row.sum(font, |region| row.regions.scalar(font, region, coords))
 }
 
@@ -254,7 +212,6 @@ pub fn glyph_item(
     base: usize,
     map: Map,
     glyph: usize,
-    model: &mut Model,
 ) -> Answer<(usize, usize, usize)> {
     let store = store_of(font, base)?;
     let offset = place(font, base + map as usize, 4)?;
@@ -263,7 +220,7 @@ pub fn glyph_item(
     }
     let (outer, inner) = match offset {
         0 => (0, glyph),
-        _ => map_entry(font, base + offset, glyph, model)?,
+        _ => map_entry(font, base + offset, glyph)?,
     };
     Ok((store, outer, inner))
 }
@@ -274,31 +231,24 @@ pub fn metric(
     map: Map,
     glyph: usize,
     coords: &[i16],
-    model: &mut Model,
+    rows: &mut Rows,
 ) -> Answer<i64> {
-    let (store, outer, inner) = glyph_item(font, base, map, glyph, model)?;
-    item(font, store, outer, inner, coords, model)
+    let (store, outer, inner) = glyph_item(font, base, map, glyph)?;
+    item(font, store, outer, inner, coords, rows)
 }
 
 /// A glyph's outer and inner index, by the map at p. A glyph at or past the count uses the last
-/// entry. In format 1 the count has four bytes; in all others two, and the outer index keeps its low 16 bits.
-fn map_entry(font: &[u8], p: usize, glyph: usize, model: &mut Model) -> Answer<(usize, usize)> {
+/// entry; the outer index keeps its low 16 bits.
+fn map_entry(font: &[u8], p: usize, glyph: usize) -> Answer<(usize, usize)> {
     let format = place(font, p, 2)?;
-    let new = format / 256 == 1;
-    model.new_edition |= new;
-    let new = new && model.by_rules;
-    let count_size = if new { 4 } else { 2 };
-    let count = place(font, p + 2, count_size)?;
+    let count = place(font, p + 2, 2)?;
     if count == 0 {
         return Err(5);
     }
     let size = format / 16 % 4 + 1;
-    let entries = p + 2 + count_size;
-    let entry = place(font, entries + size * glyph.min(count - 1), size)?;
+    let entry = place(font, p + 4 + size * glyph.min(count - 1), size)?;
     let inners = 1 << (format % 16 + 1);
-    let outer = entry / inners;
-    let outer = if new { outer } else { outer % 65536 };
-    Ok((outer, entry % inners))
+    Ok((entry / inners % 65536, entry % inners))
 }
 
 pub struct Mvar<'a> {
@@ -353,9 +303,9 @@ pub fn tag_delta(
     offset: usize,
     tag: u32,
     coords: &[i16],
-    model: &mut Model,
+    rows: &mut Rows,
 ) -> Answer<i64> {
     let mvar = open(font, offset)?;
     let (outer, inner) = mvar.item(tag)?;
-    item(mvar.part, mvar.store, outer, inner, coords, model)
+    item(mvar.part, mvar.store, outer, inner, coords, rows)
 }

@@ -2,11 +2,10 @@
 //! width on its own. A case's twin has another font of the same length, equal over the footprint, and
 //! other coordinates, equal on the axes in use, a missing one being 0: both must have one answer.
 
-use super::cases::{self, counts, edition};
+use super::cases::{self, counts};
 use super::footprint::{self, Footprint};
-use super::rules::{self, RULES};
+use super::rules::{self, COUNTED};
 use super::{parse, Case, NEW};
-use crate::apart::Apart;
 use crate::axes::rules::Answer;
 use crate::random::Random;
 use crate::text::LIST;
@@ -58,7 +57,7 @@ impl Printed for Case {
     }
 
     fn said(&self) -> Answer<Vec<i64>> {
-        self.by_rules(&mut { RULES })
+        self.by_rules(&mut { COUNTED })
     }
 }
 
@@ -116,29 +115,17 @@ pub fn twin<C: Printed>(case: C, random: &mut Random) -> [C; 2] {
     [case, twin]
 }
 
-/// Of these lines the cases of a delta, each with its twin.
-fn twins_of(lines: impl Iterator<Item = String>, seed: u64) -> impl Iterator<Item = [Case; 2]> {
-    let mut random = Random::new(seed);
+/// Cases of a delta, each with its twin: the listed ones, then those of the seed, without end.
+fn twins(seed: u64) -> impl Iterator<Item = [Case; 2]> {
+    let listed = cases::LISTED.lines().chain(counts::LISTED.lines());
+    let lines = listed.map(str::to_string).chain(cases::with_counts(seed));
+    let mut random = Random::new(seed ^ 0x7477_696e);
     let deltas = lines.filter_map(|line| parse(&line).filter(|case| case.name != NEW));
     deltas.map(move |case| twin(case, &mut random))
 }
 
-/// The listed ones, then those of the seed, without end.
-fn twins(seed: u64) -> impl Iterator<Item = [Case; 2]> {
-    let listed = cases::LISTED.lines().chain(counts::LISTED.lines());
-    let lines = listed.map(str::to_string).chain(cases::with_counts(seed));
-    twins_of(lines, seed ^ 0x7477_696e)
-}
-
-/// The same of the new edition.
-fn edition_twins(seed: u64) -> impl Iterator<Item = [Case; 2]> {
-    let listed = edition::LISTED.lines().map(str::to_string);
-    twins_of(listed.chain(edition::cases(seed)), seed ^ 0x7477_6564)
-}
-
-/// How many cases of an adjusted width come behind so many of a delta, and how many of the new edition behind
-/// these.
-fn quarter(count: usize) -> usize {
+/// How many cases of an adjusted width come behind so many of a delta.
+fn of_widths(count: usize) -> usize {
     count / 4
 }
 
@@ -146,16 +133,11 @@ fn lines<C: Printed>(pair: [C; 2]) -> [String; 2] {
     pair.map(|case| case.line())
 }
 
-/// The lines of so many cases of a delta, each with its twin's behind it, then those of adjusted widths; then the same
-/// of the new edition.
+/// The lines of so many cases of a delta, each with its twin's behind it, then those of adjusted widths.
 pub fn twin_lines(seed: u64, count: usize) -> impl Iterator<Item = String> {
-    let more = quarter(count);
     let deltas = twins(seed).take(count).flat_map(lines);
-    let widths = widths::twins::twins(seed).take(more).flat_map(lines);
-    let edition = edition_twins(seed).take(more).flat_map(lines);
-    let edition_widths = widths::twins::edition_twins(seed).take(quarter(more));
-    let edition = edition.chain(edition_widths.flat_map(lines));
-    deltas.chain(widths).chain(edition)
+    let widths = widths::twins::twins(seed).take(of_widths(count));
+    deltas.chain(widths.flat_map(lines))
 }
 
 /// A case or a twin, and what is to be said of it.
@@ -181,10 +163,10 @@ fn differences([case, twin]: &[Side; 2], given: &[String; 2]) -> Vec<&'static st
     let (a, b) = (&case.expected, &twin.expected);
     let ours = given[0] == a.answer() && given[1] == b.answer();
     let all = [
-        // of what is counted apart the Rust reads what the footprint does not have
-        ("the Rust's answers", a.apart.is_some() || a.rust == b.rust),
+        // of a row outside the item count the Rust reads what the footprint does not have
+        ("the Rust's answers", a.outside || a.rust == b.rust),
         ("the rules' answers", a.rule == b.rule),
-        ("what is counted apart", a.apart == b.apart),
+        ("rows outside the count", a.outside == b.outside),
         ("our answers", given[0] == given[1]),
         ("footprints", case.footprint.parts == twin.footprint.parts),
         ("axes in use", case.footprint.axes == twin.footprint.axes),
@@ -259,7 +241,8 @@ struct Seen {
     /// by the rules
     refused: bool,
     stops: bool,
-    apart: Option<Apart>,
+    /// a row outside its subtable's item count
+    outside: bool,
     other_font: bool,
     other_list: bool,
     /// whether a byte and an axis that were tried matter
@@ -269,15 +252,15 @@ struct Seen {
 
 impl Seen {
     fn new<C: Printed>([case, twin]: &[C; 2], side: &Side, random: &mut Random) -> Self {
-        let (refused, apart) = (case.said().is_err(), side.expected.apart);
+        let refused = case.said().is_err();
         let [byte, axis] = match refused {
             true => [None; 2],
             false => needed(case, &side.footprint, random),
         };
         Seen {
             refused,
-            stops: apart.is_none() && side.expected.rust == Rust::Stops,
-            apart,
+            stops: side.expected.rust == Rust::Stops,
+            outside: side.expected.outside,
             other_font: case.font() != twin.font(),
             other_list: case.coords() != twin.coords(),
             byte,
@@ -286,14 +269,13 @@ impl Seen {
     }
 }
 
-const COLUMNS: [&str; 13] = [
+const COLUMNS: [&str; 12] = [
     "cases",
     "equal",
     "differences",
     "refused",
     "Rust stops",
     "past count",
-    "new edition",
     "other font",
     "other list",
     "bytes tried",
@@ -314,8 +296,7 @@ impl Row {
             !same,
             seen.refused,
             seen.stops,
-            seen.apart == Some(Apart::PastCount),
-            seen.apart == Some(Apart::NewEdition),
+            seen.outside,
             seen.other_font,
             seen.other_list,
             seen.byte.is_some(),
@@ -390,13 +371,8 @@ pub fn compare(seed: u64, count: usize) -> bool {
     let mut random = Random::new(seed);
     let mut answers = lines_of(io::stdin().lock());
     let mut tally = Tally::default();
-    let more = quarter(count);
     tally.hold(twins(seed).take(count), &mut answers, &mut random);
-    let widths = widths::twins::twins(seed).take(more);
-    tally.hold(widths, &mut answers, &mut random);
-    let edition = edition_twins(seed).take(more);
-    tally.hold(edition, &mut answers, &mut random);
-    let widths = widths::twins::edition_twins(seed).take(quarter(more));
+    let widths = widths::twins::twins(seed).take(of_widths(count));
     tally.hold(widths, &mut answers, &mut random);
     let more = answers.count();
     if more > 0 {

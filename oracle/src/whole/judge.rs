@@ -1,10 +1,9 @@
 //! What is compared, and what counts as a difference. README.md has the rules.
 
-use crate::apart::{self, Apart};
 use crate::axes::rules::Answer;
 use crate::deciding::{Decided, WHYS};
 use crate::falling::{Falls, FALLS};
-use crate::store::rules::{Model, FORMER, RULES};
+use crate::store::rules::{Rows, COUNTED, UNCOUNTED};
 use std::fmt::Debug;
 
 #[derive(Clone, Copy, PartialEq)]
@@ -87,10 +86,12 @@ pub struct Tally {
     pub none: u64,
     /// what the rules say where it stops
     pub stops: u64,
+    /// what they say where a row outside its subtable's item count is met, whatever the Rust does
+    pub outside: u64,
     /// the refusal of the rules where the Rust answers what it has in the place of what can't be read
     pub falls: u64,
-    /// what the rules say, for each reason for which that is counted apart, whatever the Rust does
-    pub apart: apart::Counts,
+    /// what the rules say of an instance, where the Rust has another PostScript name id, and all else is the Rust's
+    pub other_name: u64,
     pub differences: u64,
 }
 
@@ -101,29 +102,28 @@ impl Tally {
         self.decided += other.decided;
         self.none += other.none;
         self.stops += other.stops;
+        self.outside += other.outside;
         self.falls += other.falls;
-        self.apart.add(&other.apart);
+        self.other_name += other.other_name;
         self.differences += other.differences;
     }
 
     pub fn columns(&self) -> [u64; COLUMNS.len()] {
-        let [past_count, other_name, new_edition] = self.apart.columns();
         [
             self.cases,
             self.equal,
             self.none,
             self.stops,
             self.decided,
-            past_count,
+            self.outside,
             self.falls,
-            other_name,
-            new_edition,
+            self.other_name,
             self.differences,
         ]
     }
 }
 
-pub const COLUMNS: [&str; 10] = [
+pub const COLUMNS: [&str; 9] = [
     "cases",
     "equal",
     "None",
@@ -132,7 +132,6 @@ pub const COLUMNS: [&str; 10] = [
     "past count",
     "ours refuses",
     "other name",
-    "new edition",
     "differences",
 ];
 
@@ -151,7 +150,8 @@ pub struct Read {
     pub said: Answer<f32>,
     /// by the second model, of what swash reads; none where it stops
     pub theirs: Option<f32>,
-    pub apart: Option<Apart>,
+    /// whether a row outside its subtable's item count is met
+    pub outside: bool,
     /// what swash has where the rules refuse
     pub falls: Option<Falls>,
 }
@@ -161,7 +161,8 @@ pub struct Floats {
     pub floats: Vec<f32>,
     /// whether a delta on the way is refused by 5
     pub refused_by_5: bool,
-    pub apart: Option<Apart>,
+    /// whether a row outside its subtable's item count is met
+    pub outside: bool,
 }
 
 pub struct Judge {
@@ -275,7 +276,7 @@ impl Judge {
             ),
         };
         if other_name.is_some() {
-            count = tally.apart.of(Apart::OtherName);
+            count = &mut tally.other_name;
         }
         if fits && ours == rule {
             *count += 1;
@@ -339,43 +340,45 @@ impl Judge {
     }
 
     /// A float, or some. Ours is what the rules say. So is the Rust's, and where it stops a delta is refused by 5;
-    /// but of what is counted apart it is held to the second model.
+    /// but where a row outside an item count is met it is held to the second model, which does not look at the count.
     pub fn floats(
         &mut self,
         function: Function,
         arguments: impl Fn() -> String,
         rust: Option<&[f32]>,
         ours: &[f32],
-        rule: impl Fn(Model) -> Floats,
+        rule: impl Fn(Rows) -> Floats,
     ) {
         let tally = &mut self.counts.functions[function as usize];
         tally.cases += 1;
-        let said = rule(RULES);
-        let second = said.apart.map(|apart| (apart, rule(FORMER)));
-        let theirs = second.as_ref().map_or(&said, |(_, theirs)| theirs);
+        let said = rule(COUNTED);
+        let uncounted = match said.outside {
+            true => Some(rule(UNCOUNTED)),
+            false => None,
+        };
+        let theirs = uncounted.as_ref().unwrap_or(&said);
         let fits = match rust {
             Some(floats) => !theirs.refused_by_5 && same(floats, &theirs.floats),
             None => theirs.refused_by_5,
         };
         if fits && same(ours, &said.floats) {
-            let count = match (said.apart, rust) {
-                (Some(apart), _) => tally.apart.of(apart),
-                (None, Some(_)) => &mut tally.equal,
-                (None, None) => &mut tally.stops,
-            };
-            *count += 1;
+            match rust {
+                _ if said.outside => tally.outside += 1,
+                Some(_) => tally.equal += 1,
+                None => tally.stops += 1,
+            }
             return;
         }
         let mut done = rust.map_or("a stop".to_string(), |floats| format!("{:?}", floats));
-        if let Some((apart, theirs)) = &second {
-            done += &format!(", {} {:?}", apart.second(), theirs.floats);
+        if let Some(theirs) = &uncounted {
+            done += &format!(", without the item count {:?}", theirs.floats);
         }
         let texts = [format!("{:?}", ours), done, format!("{:?}", said.floats)];
         self.difference(function, arguments(), texts);
     }
 
     /// A number or a metric that is read from the font. Ours is what the rules say, and the Rust's what the second model
-    /// says; the two are one where nothing is refused and nothing is counted apart.
+    /// says; the two are one where nothing is refused and no row outside an item count is met.
     pub fn read(
         &mut self,
         function: Function,
@@ -396,7 +399,7 @@ impl Judge {
         };
         if fits && as_said {
             let count = match (rust, &ours, read.falls) {
-                _ if read.apart.is_some() => read.apart.map(|apart| tally.apart.of(apart)),
+                _ if read.outside => Some(&mut tally.outside),
                 (None, _, _) => Some(&mut tally.stops),
                 (Some(_), Err(_), Some(falls)) => {
                     self.counts.falls[falls as usize] += 1;

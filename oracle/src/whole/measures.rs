@@ -1,11 +1,10 @@
 //! Measures and glyph metrics.
 
-use crate::apart::Apart;
 use crate::font::Font;
 use crate::judge::{Floats, Function, Judge};
 use crate::metrics::rules::{self, scale_for, scaled, Measures, Place};
 use crate::reading::{Reader, Tables};
-use crate::store::rules::{Map, Model, FORMER, RULES};
+use crate::store::rules::{Map, Rows, COUNTED, UNCOUNTED};
 use crate::suolluvik::{self, GlyphMetrics};
 use crate::text::{self, halves, EMPTY};
 
@@ -40,23 +39,15 @@ pub struct At {
     pub coords: Vec<i16>,
     scale: Scale,
     pub ours: GlyphMetrics,
-    by_rules: Materialized,
-    former: Materialized,
+    counted: Materialized,
+    uncounted: Materialized,
     pub rule_scale: f32,
 }
 
 impl At {
     /// Whether swash stops on the way to every glyph.
     pub fn stops(&self) -> bool {
-        self.former.refused_by_5
-    }
-
-    /// Why every glyph is counted apart: swash stops on the way where the rules refuse nothing by 5.
-    pub fn apart(&self) -> Option<Apart> {
-        match self.stops() && !self.by_rules.refused_by_5 {
-            true => self.by_rules.model.apart(),
-            false => None,
-        }
+        self.uncounted.refused_by_5
     }
 }
 
@@ -65,17 +56,17 @@ struct Materialized {
     vertical: rules::Vertical,
     /// whether a delta of the synthesized case is refused by 5
     refused_by_5: bool,
-    /// with what these deltas have met
-    model: Model,
+    /// whether one of them has a row outside an item count
+    outside: bool,
 }
 
 impl Materialized {
-    fn new(font: &Font, coords: &[i16], vertical: rules::Vertical, model: Model) -> Self {
-        let mut place = Place::new(&font.data, coords, model);
+    fn new(font: &Font, coords: &[i16], vertical: rules::Vertical, rows: Rows) -> Self {
+        let mut place = Place::new(&font.data, coords, rows);
         Materialized {
             vertical: place.materialize_vertical(vertical),
             refused_by_5: place.refused_by_5,
-            model: place.model,
+            outside: place.rows.outside,
         }
     }
 }
@@ -231,8 +222,8 @@ impl Metrics {
                 (Function::LinearScaleMeasures, factor)
             }
         };
-        let rule = |model| {
-            let mut place = Place::new(&font.data, coords, model);
+        let rule = |rows| {
+            let mut place = Place::new(&font.data, coords, rows);
             let rule = place.materialize(self.measures, font.mvar, self.has_vertical);
             said(scaled(rule, factor).to_vec(), &place)
         };
@@ -264,7 +255,7 @@ impl Metrics {
             |_| Floats {
                 floats: vec![ascent + descent, ascent],
                 refused_by_5: false,
-                apart: None,
+                outside: false,
             },
         );
         made
@@ -288,8 +279,8 @@ impl Metrics {
         };
         let vertical = rule_vertical(self.vertical?);
         Some(At {
-            by_rules: Materialized::new(font, &coords, vertical, RULES),
-            former: Materialized::new(font, &coords, vertical, FORMER),
+            counted: Materialized::new(font, &coords, vertical, COUNTED),
+            uncounted: Materialized::new(font, &coords, vertical, UNCOUNTED),
             coords,
             scale,
             ours,
@@ -316,7 +307,7 @@ impl Metrics {
         let answers = answers(answer)?;
         for (k, ours) in ours.iter().enumerate() {
             let rust = answers.get(k)?.map(|float| [float]);
-            let rule = |model| self.rule(font, at, model, glyph, unvaried, k);
+            let rule = |rows| self.rule(font, at, rows, glyph, unvaried, k);
             let arguments = || {
                 format!(
                     "glyph {}, {:?}, coordinates {:?}, {}",
@@ -361,23 +352,20 @@ impl Metrics {
         &self,
         font: &Font,
         at: &At,
-        model: Model,
+        rows: Rows,
         glyph: u16,
         unvaried: Unvaried,
         k: usize,
     ) -> Floats {
         let horizontal = matches!(GLYPHS[k], Function::AdvanceWidth | Function::Lsb);
-        let made = match model.by_rules {
-            true => &at.by_rules,
-            false => &at.former,
+        let made = match rows.counted {
+            true => &at.counted,
+            false => &at.uncounted,
         };
-        let model = match horizontal && at.apart().is_none() {
-            true => model,
-            false => made.model,
-        };
-        let mut place = Place::new(&font.data, &at.coords, model);
+        let mut place = Place::new(&font.data, &at.coords, rows);
         // where that stops no glyph has an answer, whatever is asked for
         place.refused_by_5 = made.refused_by_5;
+        place.rows.outside = made.outside && !horizontal;
         let (vertical, scale, y) = (made.vertical, at.rule_scale, unvaried.y);
         let value = match GLYPHS[k] {
             Function::AdvanceWidth => {
@@ -401,7 +389,7 @@ fn said(floats: Vec<f32>, place: &Place) -> Floats {
     Floats {
         floats,
         refused_by_5: place.refused_by_5,
-        apart: place.model.apart(),
+        outside: place.rows.outside,
     }
 }
 

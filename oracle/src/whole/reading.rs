@@ -6,7 +6,7 @@ use crate::font::Font;
 use crate::judge::{Function, Judge, Read};
 use crate::measures::At;
 use crate::metrics::rules::{self as metric_rules, Place};
-use crate::store::rules::{Map, FORMER, RULES};
+use crate::store::rules::{Map, COUNTED, UNCOUNTED};
 use crate::suolluvik::{self, Refusal, Vertical};
 use crate::widths::rules::{self, Table, Upright};
 
@@ -78,7 +78,7 @@ impl Reader<'_> {
                 falls: by_rules.err().and_then(|n| Falls::of(n, true)),
                 said: by_rules,
                 theirs: Some(falling::origin(data, vorg, glyph, self.units_per_em) as f32),
-                apart: None,
+                outside: false,
             };
             let ours = number(suolluvik::vorg_origin(data, vorg, glyph));
             let arguments = || format!("VORG at {}, glyph {}", vorg, glyph);
@@ -96,7 +96,7 @@ impl Reader<'_> {
             falls: by_rules.err().and_then(|n| Falls::of(n, false)),
             said: by_rules,
             theirs: falling::advance(data, table, glyph).map(|n| n as f32),
-            apart: None,
+            outside: false,
         };
         self.judge
             .read(functions[0], arguments, rust[0], ours, read);
@@ -106,7 +106,7 @@ impl Reader<'_> {
             falls: by_rules.err().and_then(|n| Falls::of(n, false)),
             said: by_rules,
             theirs: Some(falling::bearing(data, table, glyph) as f32),
-            apart: None,
+            outside: false,
         };
         self.judge
             .read(functions[1], arguments, rust[1], ours, read);
@@ -161,7 +161,7 @@ impl Reader<'_> {
         ];
         for (k, ours) in ours.iter().enumerate() {
             let map = [Map::Advance, Map::Bearing][k];
-            let mut place = Place::new(data, coords, RULES);
+            let mut place = Place::new(data, coords, COUNTED);
             let by_rules = rules::adjusted(&mut place, table, map, glyph, at.rule_scale);
             let unvaried = match map {
                 Map::Advance => falling::advance(data, table, glyph),
@@ -171,12 +171,12 @@ impl Reader<'_> {
                 falls: by_rules.err().and_then(|n| Falls::of(n, false)),
                 said: by_rules,
                 theirs: unvaried.and_then(|n| {
-                    let mut place = Place::new(data, coords, FORMER);
+                    let mut place = Place::new(data, coords, UNCOUNTED);
                     let value = place.varied(n, xvar, map, glyph, at.rule_scale);
                     let stops = place.refused_by_5 || at.stops();
                     (!stops).then_some(value)
                 }),
-                apart: at.apart().or_else(|| place.model.apart()),
+                outside: place.rows.outside,
             };
             let ours = ours.map_err(Refusal::number);
             let arguments = self.arguments(table, at, glyph);
@@ -203,10 +203,10 @@ impl Reader<'_> {
             .and_then(|(sb, y)| at.ours.vertical_origin(data, glyph, coords, sb, y))
             .map_err(Refusal::number);
         let (units, scale) = (self.units_per_em, at.rule_scale);
-        let mut place = Place::new(data, coords, RULES);
+        let mut place = Place::new(data, coords, COUNTED);
         let by_rules = rules::vertical_origin(&mut place, upright, glyph, y_max, units, scale);
         // swash's, with what it reads
-        let mut theirs = Place::new(data, coords, FORMER);
+        let mut theirs = Place::new(data, coords, UNCOUNTED);
         let vertical = upright.vertical();
         let bearing = falling::bearing(data, vmtx, glyph) as i16;
         let given = match by_vorg {
@@ -219,7 +219,7 @@ impl Reader<'_> {
             falls: by_rules.err().and_then(|n| Falls::of(n, by_vorg)),
             said: by_rules,
             theirs: (!theirs.refused_by_5 && !at.stops()).then_some(value),
-            apart: at.apart().or_else(|| place.model.apart()),
+            outside: place.rows.outside,
         };
         let arguments = format!("{}, yMax {:?}", self.arguments(vmtx, at, glyph), y_max);
         self.judge

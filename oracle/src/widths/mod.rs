@@ -10,7 +10,7 @@ use crate::axes::rules::Answer;
 use crate::metrics::rules::Place;
 use crate::metrics::{self, index, ordinate};
 use crate::private::internal::Unvaried;
-use crate::store::rules::{Map, Model, FORMER, RULES};
+use crate::store::rules::{Map, Rows, COUNTED, UNCOUNTED};
 use crate::text;
 use crate::{Expected, Rust};
 use rules::{Table, Upright};
@@ -230,9 +230,9 @@ impl Case {
     }
 
     /// What the rules say, and the place, which knows what was met on the way.
-    fn by_rules(&self, model: Model) -> (Answer<Value>, Place<'_>) {
+    fn by_rules(&self, rows: Rows) -> (Answer<Value>, Place<'_>) {
         use Map::{Advance, Bearing};
-        let mut place = Place::new(&self.font, &self.coords, model);
+        let mut place = Place::new(&self.font, &self.coords, rows);
         let (font, glyph, scale) = (&self.font[..], self.glyph, self.scale);
         let (table, upright) = (self.table, self.upright);
         let integer = |number: i32| Value::Integer(number);
@@ -263,14 +263,13 @@ impl Case {
     }
 
     pub fn expected(&self) -> Expected {
-        let (said, met) = self.by_rules(RULES);
-        let apart = met.model.apart();
+        let (said, met) = self.by_rules(COUNTED);
         let rule = answer_text(&said);
         let rust = Rust::of(|| self.rust(said.is_err()));
-        // As for the metrics: the Rust is held to what all deltas are by the second model.
-        let (theirs, place) = self.by_rules(FORMER);
+        // As for the metrics: the Rust is held to what all deltas are without the item count.
+        let (theirs, place) = self.by_rules(UNCOUNTED);
         let theirs = answer_text(&theirs);
-        assert!(apart.is_some() || theirs == rule);
+        assert!(met.rows.outside || theirs == rule);
         // The Rust stops where a delta is refused by 5, and nowhere else. It is silent on readings and on their
         // refusals.
         let agree = match &rust {
@@ -287,7 +286,8 @@ impl Case {
             rust,
             rule,
             agree,
-            apart,
+            outside: met.rows.outside,
+            other_name: false,
         }
     }
 }

@@ -1,14 +1,14 @@
 //! That an adjusted advance, and an adjusted bearing, hangs on its footprint and on the axes in use, and on
 //! nothing else: the twins of the store's deltas, of these.
 
-use super::cases::{self, LISTED, LISTED_OF_EDITION};
+use super::cases::{self, LISTED};
 use super::rules::Table;
 use super::{footprint, parse, Case, Value, ADJUSTED_ADVANCE, ADJUSTED_SB};
 use crate::axes::rules::Answer;
 use crate::random::Random;
 use crate::store::cases::coords_text;
 use crate::store::footprint::Footprint;
-use crate::store::rules::{Map, RULES};
+use crate::store::rules::{Map, COUNTED};
 use crate::store::twins::{twin, Printed};
 use crate::text;
 
@@ -47,7 +47,7 @@ impl Printed for Case {
 
     /// A NaN counts as NaN.
     fn said(&self) -> Answer<Vec<i64>> {
-        let (said, _) = self.by_rules(RULES);
+        let (said, _) = self.by_rules(COUNTED);
         said.map(|value| match value {
             Value::Float(x) if x.is_nan() => vec![],
             Value::Float(x) => vec![x.to_bits().into()],
@@ -56,23 +56,12 @@ impl Printed for Case {
     }
 }
 
-/// Of these lines the cases of an adjusted width, each with its twin.
-fn twins_of(lines: impl Iterator<Item = String>, seed: u64) -> impl Iterator<Item = [Case; 2]> {
-    let adjusted = |case: &Case| matches!(case.name, ADJUSTED_ADVANCE | ADJUSTED_SB);
-    let cases = lines.filter_map(move |line| parse(&line).filter(adjusted));
-    let mut random = Random::new(seed);
-    cases.map(move |case| twin(case, &mut random))
-}
-
-/// The listed ones, then those of the seed, without end.
+/// Cases of an adjusted width, each with its twin: the listed ones, then those of the seed, without end.
 pub fn twins(seed: u64) -> impl Iterator<Item = [Case; 2]> {
     let listed = LISTED.lines().map(str::to_string);
     let lines = listed.chain(cases::with_counts(seed));
-    twins_of(lines, seed ^ 0x7477_6964)
-}
-
-/// The same of the new edition.
-pub fn edition_twins(seed: u64) -> impl Iterator<Item = [Case; 2]> {
-    let listed = LISTED_OF_EDITION.lines().map(str::to_string);
-    twins_of(listed.chain(cases::of_edition(seed)), seed ^ 0x7477_6577)
+    let adjusted = |case: &Case| matches!(case.name, ADJUSTED_ADVANCE | ADJUSTED_SB);
+    let cases = lines.filter_map(move |line| parse(&line).filter(adjusted));
+    let mut random = Random::new(seed ^ 0x7477_6964);
+    cases.map(move |case| twin(case, &mut random))
 }

@@ -26,18 +26,24 @@ fn inners(subtable: &Subtable) -> Vec<u16> {
 /// Of one row and of three, of words and bytes, without a region index, with a word count that is
 /// refused by 5 and a region index that is refused by 3; and one whose subtables follow each other.
 fn stores() -> Vec<Store> {
+    let subtable = |words: u16, indices: &[u16], rows: &[&[i16]]| Subtable {
+        item_count: rows.len() as u16,
+        word_count: words,
+        indices: indices.to_vec(),
+        rows: rows.iter().map(|row| row.to_vec()).collect(),
+    };
     let regions: [&[[i16; 3]]; 2] = [&[ALWAYS], &[RISE]];
     let of_one = |subtable| Store::of_one(&regions, subtable);
-    let three: [&[i32]; 3] = [&[-300, 7], &[1000, -8], &[2, 1]];
+    let three: [&[i16]; 3] = [&[-300, 7], &[1000, -8], &[2, 1]];
     let mut stores = vec![
-        of_one(Subtable::of(0, &[0], &[&[100]])),
-        of_one(Subtable::of(1, &[0, 1], &three)),
-        of_one(Subtable::of(0, &[], &[&[], &[]])),
-        of_one(Subtable::of(3, &[0, 1], &three)),
-        of_one(Subtable::of(1, &[2, 0], &three)),
+        of_one(subtable(0, &[0], &[&[100]])),
+        of_one(subtable(1, &[0, 1], &three)),
+        of_one(subtable(0, &[], &[&[], &[]])),
+        of_one(subtable(3, &[0, 1], &three)),
+        of_one(subtable(1, &[2, 0], &three)),
     ];
-    let mut two = of_one(Subtable::of(0, &[0, 1], &three[..2]));
-    two.subtables.push(Subtable::of(2, &[1, 0], &three));
+    let mut two = of_one(subtable(0, &[0, 1], &three[..2]));
+    two.subtables.push(subtable(2, &[1, 0], &three));
     stores.push(two);
     let mut behind = stores[1].clone();
     behind.regions_last = true;
@@ -46,9 +52,9 @@ fn stores() -> Vec<Store> {
 }
 
 /// Each store with each count in each of its subtables.
-fn counted(stores: Vec<Store>) -> Vec<Store> {
+fn counted() -> Vec<Store> {
     let mut all = vec![];
-    for store in stores {
+    for store in stores() {
         for k in 0..store.subtables.len() {
             for count in item_counts(store.subtables[k].rows.len() as u16) {
                 let mut store = store.clone();
@@ -81,15 +87,12 @@ fn cut(font: &[u8], store: &Store) -> Vec<Vec<u8>> {
     there.map(|length| font[..*length].to_vec()).collect()
 }
 
-/// Makes a map of entries.
-pub type MapOf = fn(&[u32]) -> Map;
-
-/// The rows by themselves and by the glyphs of a table without a map; by the entries of each of the maps; by
-/// the records of an MVAR.
-pub fn fonts(stores: Vec<Store>, maps: &[MapOf]) -> Vec<Asked> {
+/// The rows by themselves and by the glyphs of a table without a map; by the entries of maps; by the
+/// records of an MVAR.
+fn fonts() -> Vec<Asked> {
     let mut fonts = vec![];
     let coords: [&[i16]; 2] = [&[8192], &[]];
-    for (k, store) in counted(stores).iter().enumerate() {
+    for (k, store) in counted().iter().enumerate() {
         let (rows, coords) = (asked_rows(store), coords[k % 2]);
         let font = hvar(None, None, store);
         let at = font.len() - store.bytes().len();
@@ -107,12 +110,10 @@ pub fn fonts(stores: Vec<Store>, maps: &[MapOf]) -> Vec<Asked> {
             .iter()
             .map(|(outer, inner)| (*outer as u32) << 16 | *inner as u32)
             .collect();
-        for map_of in maps {
-            let map = map_of(&entries);
-            let of_glyphs = (0..entries.len()).flat_map(|glyph| of_glyph(BASE, glyph, coords));
-            let font = hvar(Some(&map), Some(&map), store);
-            fonts.push((cut(&font, store), of_glyphs.collect()));
-        }
+        let map = Map::of(3, 16, &entries);
+        let of_glyphs = (0..entries.len()).flat_map(|glyph| of_glyph(BASE, glyph, coords));
+        let font = hvar(Some(&map), Some(&map), store);
+        fonts.push((cut(&font, store), of_glyphs.collect()));
 
         // as many rows as there are tags, in their order
         let mut tags = TAGS;
@@ -124,11 +125,15 @@ pub fn fonts(stores: Vec<Store>, maps: &[MapOf]) -> Vec<Asked> {
             fonts.push((cut(&mvar(8, &records, store), store), of_tags.collect()));
         }
     }
-    let each = |(fonts, questions): (Vec<Vec<u8>>, Vec<Question>)| {
-        let one = move |font| asked(font, questions.clone(), false);
-        fonts.into_iter().map(one)
+    let asked = |(fonts, questions): (Vec<Vec<u8>>, Vec<_>)| {
+        let asked = move |font| Asked {
+            font,
+            questions: questions.clone(),
+            cut: false,
+        };
+        fonts.into_iter().map(asked)
     };
-    fonts.into_iter().flat_map(each).collect()
+    fonts.into_iter().flat_map(asked).collect()
 }
 
 /// A random store, with item counts of the same kinds.
@@ -150,7 +155,7 @@ fn random_store(random: &mut Random) -> Store {
 }
 
 /// Every fourth next to the item count, or the last of all.
-pub fn random_row(store: &Store, random: &mut Random) -> (u32, u16) {
+fn random_row(store: &Store, random: &mut Random) -> (u32, u16) {
     let (outer, inner) = row_of(store, random);
     let subtable = store.subtables.get(outer as usize);
     match subtable.filter(|_| random.below(4) == 0) {
@@ -163,25 +168,30 @@ pub fn random_row(store: &Store, random: &mut Random) -> (u32, u16) {
     }
 }
 
+/// An advance of a table without a map: the glyph is a row of the first subtable.
+fn without_map(name: &str, random: &mut Random) -> String {
+    let mut store = random_store(random);
+    store.subtables.truncate(1);
+    let font = damaged(hvar(None, None, &store), random);
+    let (_, glyph) = random_row(&store, random);
+    let coords = coords(&store, random);
+    line(name, &font, &format!(" {BASE} {glyph} {coords}"))
+}
+
 fn random_case(name: &str, random: &mut Random) -> String {
     let store = random_store(random);
     match name {
         "item_delta" => item_case(&store, random_row, random),
         _ if name.starts_with("mvar") => mvar_case_of(name, &TAGS, &store, random_row, random),
-        _ if name.starts_with("advance") && random.below(2) == 0 => {
-            without_map(name, random_store(random), random_row, random)
-        }
-        _ => {
-            let map_of = |store: &Store, random: &mut Random| map(store, random_row, random);
-            glyph_case_of(name, &store, map_of, random)
-        }
+        _ if name.starts_with("advance") && random.below(2) == 0 => without_map(name, random),
+        _ => glyph_case_of(name, &store, random_row, random),
     }
 }
 
 /// Cases without end, as the other ones of the store.
 pub fn cases(seed: u64) -> Cases {
     Cases {
-        edges: Edges::of(vec![fonts(stores(), &[|entries| Map::of(3, 16, entries)])]),
+        edges: Edges::of(vec![fonts()]),
         made: 0,
         random: Random::new(seed ^ 0x434f_554e),
         random_case,
@@ -277,5 +287,9 @@ item_delta aaaa0001000000100002000000140000001d000000010001000000010000070002000
 
 /// A spread of `count` lines for a stored sample.
 pub fn sample(seed: u64, count: usize) -> Vec<String> {
-    spread(LISTED, cases(seed), SHORT, count)
+    let mut lines: Vec<String> = LISTED.lines().map(str::to_string).collect();
+    let rest = count - lines.len();
+    let short = |line: &String| line.len() <= SHORT;
+    lines.extend(cases(seed).filter(short).take(rest));
+    lines
 }

@@ -1,5 +1,5 @@
 -- `lines::item::cut_row` meets its contract. The loop's invariant is that of `whole_row`. Assumes nothing.
-use Prim.Native.Nat.{ℕ, ◌+◌, ◌-◌, ◌*◌, ◌≤◌}
+use Prim.Native.Nat.{◌+◌, ◌-◌, ◌*◌, ◌≤◌}
 use mathlib.Core.Path.{◌≡◌, refl}
 use native.Mathlib.Omega.{arith}
 use borrow.Author.Rules.{rules}
@@ -14,43 +14,36 @@ use Rattle.readers.proofs.Reading.{answered}
 use Rattle.readers.proofs.Walk.{run_turned, run_ended}
 use Rattle.opentype.specs.Item.{row_turn, row_sum}
 use Rattle.opentype.specs.Lines.{scalar_from}
-use Rattle.store.specs.ItemAnswers.{unit_of}
-use Rattle.lines.specs.LinesAnswers.{row_in}
-use Rattle.lines.proofs.Rows.{index_cut, index_large, marked, entry_refused, turned}
+use Rattle.lines.specs.LinesAnswers.{row_from}
+use Rattle.lines.proofs.Rows.{index_cut, index_large, marked, entry_cut, turned}
 use Rattle.lines.proofs.item.cut_row.Statement.{statement}
 use Rattle.lines.proofs.item.cut_row.Tie as tie
 
 abbrev invariant-loop : tie.invariant-loop
-invariant-loop font region-count store offset count word_count long inner scalars indexes sum₀ k₀ sum k =
-    let r = row_in (store + offset) count word_count (unit_of long) inner in
+invariant-loop font region-count indexes count word_count row scalars sum₀ k₀ sum k =
+    let r = row_from indexes count word_count row in
     (k ≤ count) × (run font (walk (row_turn (scalar_from scalars) region-count r) answer count k sum.0) ≡ run font (row_sum (scalar_from scalars) region-count r))
 
 abbrev decreases-loop : tie.decreases-loop
-decreases-loop font region-count store offset count word_count long inner scalars indexes sum₀ k₀ sum k = count - k
+decreases-loop font region-count indexes count word_count row scalars sum₀ k₀ sum k = count - k
 
 -- The index of a region is there: it was tested.
-index-there : (c : tie.Else1 invariant-loop decreases-loop) → let a = c.before.before.before.before.args in a.store + a.offset + 6 + 2 * c.before.before.loop.k + 2 ≤ length a.font.now
+index-there : (c : tie.Else1 invariant-loop decreases-loop) → let a = c.before.before.before.before.args in a.indexes + 2 * c.before.before.loop.k + 2 ≤ length a.font.now
 index-there c = omega arith
 
 -- What `add_product` said, of the number in the list and of the entry.
 told : (c : tie.After-add-product invariant-loop decreases-loop)
-    → let read = c.before.before.before.before.before.before.before.before in
+    → let read = c.before.before.before.before.before.before.before in
     let here = read.before.before in
     let a = here.before.before.before.args in
-    c.add-product.result.0 ≡ wrap32 (here.before.loop.sum.0 +ℤ get_or a.scalars.now read.half_in.result (pos 0) *ℤ c.before.before.x.given.0.0)
+    c.add-product.result.0 ≡ wrap32 (here.before.loop.sum.0 +ℤ get_or a.scalars.now read.half_in.result (pos 0) *ℤ c.before.entry_in.result)
 told c =
-    let read = c.before.before.before.before.before.before.before.before in
+    let read = c.before.before.before.before.before.before.before in
     let a = read.before.before.before.before.before.args in
     rw (
-      to_z-of_z w16 c.before.before.x.given.0.0 (record { sfits = omega arith }),
+      to_z-of_z w16 c.before.entry_in.result (record { sfits = c.before.entry_in.type-inv }),
       to_z-of_z w32 (get_or a.scalars.now read.half_in.result (pos 0)) (search rules),
     ) at c.add-product.ensures
-
-add-indexes : tie.Need-overflow-add-indexes invariant-loop decreases-loop
-add-indexes c = search rules
-
-add-indexes-2 : tie.Need-overflow-add-indexes-2 invariant-loop decreases-loop
-add-indexes-2 c = search rules
 
 loop-holds : tie.Need-loop-init invariant-loop decreases-loop
 unfolding row_sum
@@ -72,7 +65,8 @@ returns : tie.Need-returns invariant-loop decreases-loop
 returns c =
     let here = c.before in
     let a = here.before.before.before.args in
-    run_turned _ _ _ _ _ _ _ _ here.before.loop.invariant.1 here.loop-test.true (index_cut a.font.now a.scalars.now a.region-count (row_in (a.store + a.offset) a.count a.word_count (unit_of a.long) a.inner) here.before.loop.k here.before.loop.sum.0 _ c.if1.true)
+    run_turned _ _ _ _ _ _ _ _ here.before.loop.invariant.1 here.loop-test.true
+    (index_cut a.font.now a.scalars.now a.region-count (row_from a.indexes a.count a.word_count a.row) here.before.loop.k here.before.loop.sum.0 _ c.if1.true)
 
 half-in-requires : tie.Need-half-in-requires invariant-loop decreases-loop
 half-in-requires c κs = index-there c
@@ -83,7 +77,7 @@ returns-2 c =
     let here = read.before.before in
     let a = here.before.before.before.args in
     run_turned _ _ _ _ _ _ _ _ here.before.loop.invariant.1 here.loop-test.true
-    (index_large a.font.now a.scalars.now a.region-count (row_in (a.store + a.offset) a.count a.word_count (unit_of a.long) a.inner) here.before.loop.k here.before.loop.sum.0 _ read.half_in.result (index-there read.before) read.half_in.ensures c.if2.true)
+    (index_large a.font.now a.scalars.now a.region-count (row_from a.indexes a.count a.word_count a.row) here.before.loop.k here.before.loop.sum.0 _ read.half_in.result (index-there read.before) read.half_in.ensures c.if2.true)
 
 cast-scalar : tie.Need-overflow-cast-scalar invariant-loop decreases-loop
 cast-scalar c = search rules
@@ -100,25 +94,21 @@ returns-3 c =
     let here = read.before.before in
     let a = here.before.before.before.args in
     run_turned _ _ _ _ _ _ _ _ here.before.loop.invariant.1 here.loop-test.true
-    (marked a.font.now a.scalars.now a.region-count (row_in (a.store + a.offset) a.count a.word_count (unit_of a.long) a.inner) here.before.loop.k here.before.loop.sum.0 _ read.half_in.result (index-there read.before) read.half_in.ensures c.before.before.if2.false (search rules) c.if3.true)
+    (marked a.font.now a.scalars.now a.region-count (row_from a.indexes a.count a.word_count a.row) here.before.loop.k here.before.loop.sum.0 _ read.half_in.result (index-there read.before) read.half_in.ensures c.before.before.if2.false (search rules) c.if3.true)
 
-delta-in-requires : tie.Need-delta-in-requires invariant-loop decreases-loop
-delta-in-requires c κs = search rules
-
-enum-known-x : tie.Need-enum-known-x invariant-loop decreases-loop
-enum-known-x c = search rules
-
-enum-known-n : tie.Need-enum-known-n invariant-loop decreases-loop
-enum-known-n c = search rules
+entry-end-requires : tie.Need-entry-end-requires invariant-loop decreases-loop
+entry-end-requires c κs = omega arith
 
 returns-4 : tie.Need-returns-4 invariant-loop decreases-loop
 returns-4 c =
-    let entry = c.before.before.before in
-    let read = entry.before.before.before.before in
+    let read = c.before.before.before.before.before in
     let here = read.before.before in
     let a = here.before.before.before.args in
     run_turned _ _ _ _ _ _ _ _ here.before.loop.invariant.1 here.loop-test.true
-    (entry_refused a.font.now a.scalars.now a.region-count (row_in (a.store + a.offset) a.count a.word_count (unit_of a.long) a.inner) here.before.loop.k here.before.loop.sum.0 _ read.half_in.result (index-there read.before) read.half_in.ensures entry.before.before.before.if2.false entry.before.if3.false entry.delta-in.ensures c.before.n.given.1)
+    (entry_cut a.font.now a.scalars.now a.region-count (row_from a.indexes a.count a.word_count a.row) here.before.loop.k here.before.loop.sum.0 _ read.half_in.result (index-there read.before) read.half_in.ensures c.before.before.before.before.if2.false c.before.before.if3.false (rw c.before.entry-end.ensures at c.if4.true))
+
+entry-in-requires : tie.Need-entry-in-requires invariant-loop decreases-loop
+entry-in-requires c κs = rw c.before.entry-end.ensures at c.if4.false
 
 add-product-requires : tie.Need-add-product-requires invariant-loop decreases-loop
 add-product-requires c κs = search rules
@@ -131,14 +121,12 @@ loop-less c = search rules
 
 loop-again : tie.Need-loop-preserved invariant-loop decreases-loop
 loop-again c =
-    let delta = c.before.before in
-    let entry = delta.before.before in
-    let read = entry.before.before.before.before in
+    let read = c.before.before.before.before.before.before.before in
     let here = read.before.before in
     let a = here.before.before.before.args in (
       omega arith,
       run_turned _ _ _ _ _ _ _ _ here.before.loop.invariant.1 here.loop-test.true
-          (turned a.font.now a.scalars.now a.region-count (row_in (a.store + a.offset) a.count a.word_count (unit_of a.long) a.inner) here.before.loop.k here.before.loop.sum.0 _ read.half_in.result (index-there read.before) read.half_in.ensures entry.before.before.before.if2.false entry.before.if3.false _ _ (rw delta.x.given.1 at entry.delta-in.ensures) (rw (told c))),
+          (turned a.font.now a.scalars.now a.region-count (row_from a.indexes a.count a.word_count a.row) here.before.loop.k here.before.loop.sum.0 _ read.half_in.result (index-there read.before) read.half_in.ensures c.before.before.before.before.before.before.if2.false c.before.before.before.before.if3.false _ _ c.before.entry_in.ensures (rw (told c))),
     )
 
 returns-5 : tie.Need-returns-5 invariant-loop decreases-loop
@@ -150,8 +138,6 @@ cut_row_spec =
     (tie.spec
     invariant-loop
     decreases-loop
-    add-indexes
-    add-indexes-2
     loop-holds
     cast-at
     mul_at
@@ -164,10 +150,9 @@ cut_row_spec =
     mul-scalar
     shared-slice-copy-out-scalar
     returns-3
-    delta-in-requires
-    enum-known-x
-    enum-known-n
+    entry-end-requires
     returns-4
+    entry-in-requires
     add-product-requires
     add-k
     loop-less

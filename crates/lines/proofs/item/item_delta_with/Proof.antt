@@ -1,11 +1,10 @@
 -- `lines::item::item_delta_with` meets its contract. Assumes nothing.
-use Prim.Native.Nat.{◌+◌, ◌*◌, ◌%◌, ◌^◌, ◌<◌}
+use Prim.Native.Nat.{◌+◌, ◌*◌, ◌≤◌}
 use mathlib.Core.Path.{refl}
+use native.Mathlib.Nat.{mul-le-mul}
 use native.Mathlib.Omega.{arith}
-use Rattle.store.proofs.Entries.{row_near}
-use Rattle.lines.proofs.Heads.{Listed, Subtable, no_store, head_cut, outer_large, list_cut, offset_cut, subtable_cut, words_many, inner_large, list_short, summed, summed_short}
+use Rattle.lines.proofs.Heads.{Listed, Subtable, no_store, head_cut, outer_large, list_cut, offset_cut, subtable_cut, words_many, inner_large, list_short, summed}
 use borrow.Author.Rules.{rules}
-use borrow.Author.Tests.{lt-leb}
 use Rattle.lines.proofs.item.item_delta_with.Statement.{statement}
 use Rattle.lines.proofs.item.item_delta_with.Tie as tie
 
@@ -36,7 +35,7 @@ subtable c =
       found = there.before.word-in2.ensures;
       there = there.if6.false;
       indexes = c.before.half-in2.result;
-      packed = c.half-in3.result;
+      words = c.half-in3.result;
       many = c.before.half-in2.ensures;
       wide = c.half-in3.ensures;
     }
@@ -44,8 +43,8 @@ subtable c =
 -- The row's product, so that no position wraps.
 row_small : (c : tie.Else9)
     → let words = c.before.before.before.before.before in
-    words.before.before.before.before.before.before.before.before.before.before.before.before.args.inner * (words.before.half-in2.result + words.half-in3.result % 0x8000) < 2 ^ 35
-row_small c = row_near _ _ (omega arith) (omega arith)
+    words.before.before.before.before.before.before.before.before.before.before.before.before.args.inner * (words.before.half-in2.result + words.half-in3.result) ≤ 65535 * 131070
+row_small c = mul-le-mul {n₂ = 65535} {m₂ = 131070} (omega arith) (omega arith)
 
 returns : tie.Need-returns
 returns c = no_store _ _ _ _ _ c.if1.true
@@ -188,37 +187,37 @@ mul-row-2 c = omega (arith, row_small c)
 add-row-3 : tie.Need-overflow-add-row-3
 add-row-3 c = omega (arith, row_small c)
 
-cast-if11 : tie.Need-overflow-cast-if11
-cast-if11 c = search rules
+cast-if10 : tie.Need-overflow-cast-if10
+cast-if10 c = search rules
 
-cast-if11-2 : tie.Need-overflow-cast-if11-2
-cast-if11-2 c = search rules
+cast-if10-2 : tie.Need-overflow-cast-if10-2
+cast-if10-2 c = search rules
 
-add-if11 : tie.Need-overflow-add-if11
-add-if11 c = search rules
+add-if10 : tie.Need-overflow-add-if10
+add-if10 c = search rules
 
-add-if11-2 : tie.Need-overflow-add-if11-2
-add-if11-2 c = omega (arith, row_small c.before)
+add-if10-2 : tie.Need-overflow-add-if10-2
+add-if10-2 c = omega (arith, row_small c)
 
-whole-row-requires : tie.Need-whole-row-requires
-whole-row-requires c κs = search rules
+cut-row-requires : tie.Need-cut-row-requires
+cut-row-requires c κs = (omega arith, (omega arith, omega (arith, row_small c.before)))
 
 returns-10 : tie.Need-returns-10
 returns-10 c =
-    let room = c.before.before.before in
+    let room = c.before.before in
     let row = room.before.before in
     let few = row.before.before in
-    summed_short _ _ _ _ _ (subtable few.before) _ room.before.half-in5.ensures few.if7.false _ row.before.half-in4.ensures _ row.if8.false room.if9.false (rw (lt-leb 0x8000 _ c.before.before.if10.true)) c.whole_row.ensures
+    summed _ _ _ _ _ (subtable few.before) _ room.before.half-in5.ensures few.if7.false _ row.before.half-in4.ensures _ row.if8.false room.if9.false c.cut_row.ensures
 
-cut-row-requires : tie.Need-cut-row-requires
-cut-row-requires c κs = omega arith
+whole-row-requires : tie.Need-whole-row-requires
+whole-row-requires c κs = search rules
 
 returns-11 : tie.Need-returns-11
 returns-11 c =
     let room = c.before.before in
     let row = room.before.before in
     let few = row.before.before in
-    summed _ _ _ _ _ (subtable few.before) _ room.before.half-in5.ensures few.if7.false _ row.before.half-in4.ensures _ row.if8.false room.if9.false c.cut_row.ensures
+    summed _ _ _ _ _ (subtable few.before) _ room.before.half-in5.ensures few.if7.false _ row.before.half-in4.ensures _ row.if8.false room.if9.false c.whole_row.ensures
 
 pub item_delta_with_spec : {M : Type 1} → statement M
 item_delta_with_spec =
@@ -267,11 +266,11 @@ item_delta_with_spec =
     add-row-2
     mul-row-2
     add-row-3
-    cast-if11
-    cast-if11-2
-    add-if11
-    add-if11-2
-    whole-row-requires
-    returns-10
+    cast-if10
+    cast-if10-2
+    add-if10
+    add-if10-2
     cut-row-requires
+    returns-10
+    whole-row-requires
     returns-11)

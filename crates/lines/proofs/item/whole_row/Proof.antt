@@ -21,7 +21,7 @@ use Rattle.lines.proofs.item.whole_row.Tie as tie
 
 abbrev invariant-loop : tie.invariant-loop
 invariant-loop font region-count indexes count word_count row scalars sum₀ k₀ sum k =
-    let r = row_from indexes count word_count 1 row in
+    let r = row_from indexes count word_count row in
     (k ≤ count) × (run font (walk (row_turn (scalar_from scalars) region-count r) answer count k sum.0) ≡ run font (row_sum (scalar_from scalars) region-count r))
 
 abbrev decreases-loop : tie.decreases-loop
@@ -63,7 +63,7 @@ returns : tie.Need-returns invariant-loop decreases-loop
 returns c =
     let here = c.before.before in
     let a = here.before.before.before.args in
-    run_turned _ _ _ _ _ _ _ _ here.before.loop.invariant.1 here.loop-test.true (index_large a.font.now a.scalars.now a.region-count (row_from a.indexes a.count a.word_count 1 a.row) here.before.loop.k here.before.loop.sum.0 _ c.before.half_in.result (index-there here) c.before.half_in.ensures c.if1.true)
+    run_turned _ _ _ _ _ _ _ _ here.before.loop.invariant.1 here.loop-test.true (index_large a.font.now a.scalars.now a.region-count (row_from a.indexes a.count a.word_count a.row) here.before.loop.k here.before.loop.sum.0 _ c.before.half_in.result (index-there here) c.before.half_in.ensures c.if1.true)
 
 cast-scalar : tie.Need-overflow-cast-scalar invariant-loop decreases-loop
 cast-scalar c = search rules
@@ -80,7 +80,7 @@ returns-2 c =
     let here = read.before in
     let a = here.before.before.before.args in
     run_turned _ _ _ _ _ _ _ _ here.before.loop.invariant.1 here.loop-test.true
-    (marked a.font.now a.scalars.now a.region-count (row_from a.indexes a.count a.word_count 1 a.row) here.before.loop.k here.before.loop.sum.0 _ read.half_in.result (index-there here) read.half_in.ensures c.before.before.if1.false (search rules) c.if2.true)
+    (marked a.font.now a.scalars.now a.region-count (row_from a.indexes a.count a.word_count a.row) here.before.loop.k here.before.loop.sum.0 _ read.half_in.result (index-there here) read.half_in.ensures c.before.before.if1.false (search rules) c.if2.true)
 
 entry-in-requires : tie.Need-entry-in-requires invariant-loop decreases-loop
 entry-in-requires c κs =
@@ -104,7 +104,7 @@ loop-again c =
     let a = here.before.before.before.args in (
       omega arith,
       run_turned _ _ _ _ _ _ _ _ here.before.loop.invariant.1 here.loop-test.true
-          (turned a.font.now a.scalars.now a.region-count (row_from a.indexes a.count a.word_count 1 a.row) here.before.loop.k here.before.loop.sum.0 _ read.half_in.result (index-there here) read.half_in.ensures c.before.before.before.before.if1.false c.before.before.if2.false _ _ c.before.entry_in.ensures (rw (told c))),
+          (turned a.font.now a.scalars.now a.region-count (row_from a.indexes a.count a.word_count a.row) here.before.loop.k here.before.loop.sum.0 _ read.half_in.result (index-there here) read.half_in.ensures c.before.before.before.before.if1.false c.before.before.if2.false _ _ c.before.entry_in.ensures (rw (told c))),
     )
 
 returns-3 : tie.Need-returns-3 invariant-loop decreases-loop

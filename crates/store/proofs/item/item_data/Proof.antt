@@ -1,5 +1,4 @@
 -- `store::item::item_data` meets its contract. Assumes nothing.
-use Prim.Native.Nat.{◌%◌}
 use native.Mathlib.Omega.{arith}
 use borrow.Author.Rules.{rules}
 use borrow.Author.Tests.{le-leb, le-ltb}
@@ -28,7 +27,7 @@ enum-known-n c = search rules
 
 returns : tie.Need-returns
 unfolding row_at
-returns c = (search unsigned depth 8, tt)
+returns c = search unsigned depth 8
 
 cast-subtable : tie.Need-overflow-cast-subtable
 cast-subtable c = search rules
@@ -50,7 +49,7 @@ enum-known-n-2 c = search rules
 
 returns-2 : tie.Need-returns-2
 unfolding row_at
-returns-2 c = (search unsigned depth 8, tt)
+returns-2 c = search unsigned depth 8
 
 add-u16-at-2 : tie.Need-overflow-add-u16-at-2
 add-u16-at-2 c = search rules
@@ -66,11 +65,11 @@ enum-known-n-3 c = search rules
 
 returns-3 : tie.Need-returns-3
 unfolding row_at
-returns-3 c = (search unsigned depth 8, tt)
+returns-3 c = search unsigned depth 8
 
 returns-4 : tie.Need-returns-4
 unfolding row_at
-returns-4 c = (search (unsigned, tests, ends, comparisons) depth 14, tt)
+returns-4 c = search (unsigned, tests, ends, comparisons) depth 14
 
 u16-at-requires-3 : tie.Need-u16-at-requires-3
 u16-at-requires-3 c κs = search rules
@@ -83,7 +82,7 @@ enum-known-n-4 c = search rules
 
 returns-5 : tie.Need-returns-5
 unfolding row_at
-returns-5 c = (search (unsigned, tests, comparisons) depth 12, tt)
+returns-5 c = search (unsigned, tests, comparisons) depth 12
 
 returns-6 : tie.Need-returns-6
 unfolding row_at
@@ -91,22 +90,17 @@ returns-6 c =
     let items = c.before in
     let words = items.before.before.before.before.before in
     let count = words.before.before.before.before in
-    let offset = count.before.before.before.before in (
-      took32 _ _ _ _ offset.before.before.before.u32-at.ensures offset.before.x.given.1
-          (took16 _ _ _ _ count.before.before.before.u16-at.ensures count.before.x2.given.1
-          (took16 _ _ _ _ words.before.before.before.u16-at2.ensures words.before.x3.given.1
-          (passed _ _ _ _ _ (le-leb (words.before.x3.given.0.0 % 0x8000) count.before.x2.given.0.0 (omega arith))
-          (took16 _ _ _ _ items.before.before.before.u16-at3.ensures items.before.x4.given.1
-          (failed _ _ _ _ (le-ltb offset.before.before.before.before.before.args.inner items.before.x4.given.0.0 (omega arith))))))),
-      tt,
-    )
-
-add-t25 : tie.Need-overflow-add-t25
-add-t25 c = search rules
+    let offset = count.before.before.before.before in
+    took32 _ _ _ _ offset.before.before.before.u32-at.ensures offset.before.x.given.1
+    (took16 _ _ _ _ count.before.before.before.u16-at.ensures count.before.x2.given.1
+    (took16 _ _ _ _ words.before.before.before.u16-at2.ensures words.before.x3.given.1
+    (passed _ _ _ _ _ (le-leb words.before.x3.given.0.0 count.before.x2.given.0.0 (omega arith))
+    (took16 _ _ _ _ items.before.before.before.u16-at3.ensures items.before.x4.given.1
+    (failed _ _ _ _ (le-ltb offset.before.before.before.before.before.args.inner items.before.x4.given.0.0 (omega arith)))))))
 
 returns-7 : tie.Need-returns-7
 unfolding row_at
-returns-7 c = (search (unsigned, tests, ends, comparisons) depth 14, omega arith)
+returns-7 c = search (unsigned, tests, ends, comparisons) depth 14
 
 pub item_data_spec : {M : Type 1} → statement M
 item_data_spec =
@@ -137,5 +131,4 @@ item_data_spec =
     enum-known-n-4
     returns-5
     returns-6
-    add-t25
     returns-7)

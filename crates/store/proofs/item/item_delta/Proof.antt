@@ -14,7 +14,7 @@ enum-known-x : tie.Need-enum-known-x
 enum-known-x c = search rules
 
 row-sum-requires : tie.Need-row-sum-requires
-row-sum-requires c κs = rw c.before.before.before.x.given.1 at c.before.before.before.before.before.item-at.ensures.1
+row-sum-requires c κs = search rules
 
 enum-known-n : tie.Need-enum-known-n
 enum-known-n c = search rules
@@ -23,11 +23,11 @@ returns : tie.Need-returns
 unfolding item_delta delta_in
 returns c =
     let item = c.before.before.before.before in
-    took_by (item_outcome _) _ _ _ _ item.before.before.item-at.ensures.0 item.x.given.1 refl c.row-sum.ensures
+    took_by (item_outcome _) _ _ _ _ item.before.before.item-at.ensures item.x.given.1 refl c.row-sum.ensures
 
 returns-2 : tie.Need-returns-2
 unfolding item_delta delta_in
-returns-2 c = stop_by (item_outcome _) _ _ _ c.before.before.before.item-at.ensures.0 c.before.n.given.1 refl
+returns-2 c = stop_by (item_outcome _) _ _ _ c.before.before.before.item-at.ensures c.before.n.given.1 refl
 
 pub item_delta_spec : {M : Type 1} → statement M
 item_delta_spec =

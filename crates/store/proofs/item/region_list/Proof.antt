@@ -1,8 +1,6 @@
 -- `store::item::region_list` meets its contract. Assumes nothing.
-use native.Mathlib.Omega.{arith}
 use borrow.Author.Rules.{rules}
-use Rattle.readers.proofs.Reading.{took32, unsigned, ends}
-use Rattle.readers.proofs.Passed.{pair_cut}
+use Rattle.readers.proofs.Reading.{unsigned, ends}
 use Rattle.opentype.specs.Item.{region_list}
 use Rattle.store.proofs.item.region_list.Statement.{statement}
 use Rattle.store.proofs.item.region_list.Tie as tie
@@ -29,13 +27,6 @@ cast-list c = search rules
 add-list : tie.Need-overflow-add-list
 add-list c = search rules
 
-add-if1 : tie.Need-overflow-add-if1
-add-if1 c = search rules
-
-returns-2 : tie.Need-returns-2
-unfolding region_list
-returns-2 c = took32 _ _ _ _ c.before.before.before.before.u32-at.ensures c.before.before.x.given.1 (pair_cut _ 2 _ (λ a. 2) _ (λ a. omega arith))
-
 u16-at-requires : tie.Need-u16-at-requires
 u16-at-requires c κs = search rules
 
@@ -45,9 +36,9 @@ enum-known-x-2 c = search rules
 enum-known-n-2 : tie.Need-enum-known-n-2
 enum-known-n-2 c = search rules
 
-returns-3 : tie.Need-returns-3
+returns-2 : tie.Need-returns-2
 unfolding region_list
-returns-3 c = search (unsigned, ends) depth 8
+returns-2 c = search (unsigned, ends) depth 8
 
 add-u16-at : tie.Need-overflow-add-u16-at
 add-u16-at c = search rules
@@ -61,13 +52,13 @@ enum-known-x-3 c = search rules
 enum-known-n-3 : tie.Need-enum-known-n-3
 enum-known-n-3 c = search rules
 
+returns-3 : tie.Need-returns-3
+unfolding region_list
+returns-3 c = search (unsigned, ends) depth 8
+
 returns-4 : tie.Need-returns-4
 unfolding region_list
 returns-4 c = search (unsigned, ends) depth 8
-
-returns-5 : tie.Need-returns-5
-unfolding region_list
-returns-5 c = search (unsigned, ends) depth 8
 
 pub region_list_spec : {M : Type 1} → statement M
 region_list_spec =
@@ -80,15 +71,13 @@ region_list_spec =
     returns
     cast-list
     add-list
-    add-if1
-    returns-2
     u16-at-requires
     enum-known-x-2
     enum-known-n-2
-    returns-3
+    returns-2
     add-u16-at
     u16-at-requires-2
     enum-known-x-3
     enum-known-n-3
-    returns-4
-    returns-5)
+    returns-3
+    returns-4)

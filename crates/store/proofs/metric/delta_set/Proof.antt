@@ -25,6 +25,12 @@ returns : tie.Need-returns
 unfolding delta_set_index_at
 returns c = rw (← c.before.before.before.before.map-field.ensures.0) (stop32 _ _ _ c.before.before.before.u32-at.ensures c.before.n.given.1)
 
+cast-map-entry : tie.Need-overflow-cast-map-entry
+cast-map-entry c = search rules
+
+add-map-entry : tie.Need-overflow-add-map-entry
+add-map-entry c = search rules
+
 map-entry-requires : tie.Need-map-entry-requires
 map-entry-requires c κs = search rules
 
@@ -65,6 +71,8 @@ delta_set_spec =
     enum-known-x
     enum-known-n
     returns
+    cast-map-entry
+    add-map-entry
     map-entry-requires
     returns-2
     enum_told

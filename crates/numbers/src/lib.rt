@@ -1,5 +1,7 @@
 // The 16.16 and 2.14 numbers (swash's fixed.rs).
 // A number is passed whole: what computes with it goes through its methods, of which `to_bits`, `from_f2dot14`, `to_f32` and `lt` open it.
+#![tactic(auto)]
+
 ghost use Rattle.std.specs.Prelude.{◌≡◌, ◌+◌, ◌-◌, ◌*◌, ◌/◌, ◌^◌, ◌<◌, ◌≤◌, min, if◌then◌else◌, int_lt, nat_lt, unsigned_abs};
 ghost use Rattle.std.specs.Float.Ieee.{to_signed};
 ghost use Rattle.std.specs.Int.{w16, w32};
@@ -8,11 +10,11 @@ ghost use Rattle.numbers.specs.Numbers.{mod_z, wrap32, plus_multiple, plus, minu
 ghost use Rattle.numbers.specs.Floats.{of_float, to_float, whole_bits};
 
 // 16.16
-#[derive(Drop)]
+#[derive(Clone, Copy)]
 pub struct Fixed(pub i32);
 
 // 2.14
-#[derive(Drop)]
+#[derive(Clone, Copy)]
 pub struct F2Dot14(pub i16);
 
 impl F2Dot14 {

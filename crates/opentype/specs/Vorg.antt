@@ -5,8 +5,8 @@ use Rattle.readers.specs.Reading.{Reading, answer, ◌>>=◌, ◌>>◌, check, u
 use Rattle.opentype.specs.Search.{Records, Sought, searched}
 
 -- The records of a VORG at an offset: a glyph id, then the origin of that glyph.
-abbrev pub vert_origin_y_Metrics : ℕ → Records
-vert_origin_y_Metrics vorg = record { key_size = 2; start = λ i. vorg + 8 + 4 * i }
+abbrev pub vert_origin_y_metrics : ℕ → Records
+vert_origin_y_metrics vorg = record { key_size = 2; start = λ i. vorg + 8 + 4 * i }
 
 -- The origin of the record that has the glyph; the default of a glyph that no record has.
 abbrev pub vert_origin_y : ℤ → Sought ℤ
@@ -17,5 +17,5 @@ unfoldable pub origin_at : ℕ → ℕ → Reading ℤ
 origin_at vorg glyph = do
   check (not (eqb vorg 0)) 1
   default_vert_origin_y ← signed_at w16 (vorg + 4)
-  num_vert_origin_y_Metrics ← unsigned_at 2 (vorg + 6)
-  searched (vert_origin_y_Metrics vorg) (vert_origin_y default_vert_origin_y) glyph num_vert_origin_y_Metrics
+  num_vert_origin_y_metrics ← unsigned_at 2 (vorg + 6)
+  searched (vert_origin_y_metrics vorg) (vert_origin_y default_vert_origin_y) glyph num_vert_origin_y_metrics

@@ -1,5 +1,5 @@
 -- Laws of outcomes. Assumes nothing.
--- A law that ends `-by` is over the map o of a call's answer to its outcome: from what the call ensures and the case that the answer was.
+-- A law that ends `_by` is over the map o of a call's answer to its outcome: from what the call ensures and the case that the answer was.
 use Prim.Native.Nat.{ℕ}
 use mathlib.Core.Path.{◌≡◌, refl}
 use mathlib.Core.Bool.{Bool, true, false}

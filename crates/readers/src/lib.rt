@@ -1,4 +1,6 @@
 // Refusals, and bounded big-endian reads of a font (swash's parse.rs). Each answers what its definition says, for every position.
+#![tactic(auto)]
+
 ghost use Rattle.std.specs.Prelude.{◌≡◌, ◌<◌, length, get_or};
 ghost use Rattle.std.specs.Int.{w8, w16, w32};
 ghost use Rattle.readers.specs.Reading.{run, unsigned_at, signed_at};
@@ -7,7 +9,7 @@ ghost use Rattle.readers.specs.Answers.{number_of, outcome8, outcome16, outcome3
 use numbers::{F2Dot14, Fixed, as_i16};
 
 // Document 01's seven, in the order of their numbers.
-#[derive(Drop)]
+#[derive(Clone, Copy)]
 pub enum Refusal {
     Absent,
     Short,
@@ -33,37 +35,37 @@ pub fn number(r: Refusal) -> u8
     }
 }
 
-#[derive(Drop)]
+#[derive(Clone, Copy)]
 pub enum Byte {
     Value(u8),
     Refused(Refusal),
 }
 
-#[derive(Drop)]
+#[derive(Clone, Copy)]
 pub enum Half {
     Value(u16),
     Refused(Refusal),
 }
 
-#[derive(Drop)]
+#[derive(Clone, Copy)]
 pub enum Word {
     Value(u32),
     Refused(Refusal),
 }
 
-#[derive(Drop)]
+#[derive(Clone, Copy)]
 pub enum Signed {
     Value(i16),
     Refused(Refusal),
 }
 
-#[derive(Drop)]
+#[derive(Clone, Copy)]
 pub enum F2Dot14Answer {
     Value(F2Dot14),
     Refused(Refusal),
 }
 
-#[derive(Drop)]
+#[derive(Clone, Copy)]
 pub enum FixedAnswer {
     Value(Fixed),
     Refused(Refusal),

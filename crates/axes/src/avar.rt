@@ -9,26 +9,26 @@ use numbers::{Fixed, muldiv};
 use readers::{F2Dot14Answer, FixedAnswer, Half, Refusal, f2dot14_at, u16_at};
 
 // Where the pairs of an axis's map start, and how many they are.
-#[derive(Drop)]
+#[derive(Clone, Copy)]
 struct SegmentMap {
     start: usize,
     count: u16,
 }
 
-#[derive(Drop)]
+#[derive(Clone, Copy)]
 enum MapAnswer {
     Value(SegmentMap),
     Refused(Refusal),
 }
 
 // A pair of a map, in 16.16.
-#[derive(Drop)]
+#[derive(Clone, Copy)]
 struct AxisValueMap {
     from: Fixed,
     to: Fixed,
 }
 
-#[derive(Drop)]
+#[derive(Clone, Copy)]
 enum PairAnswer {
     Value(AxisValueMap),
     Refused(Refusal),

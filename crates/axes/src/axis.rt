@@ -10,7 +10,7 @@ use numbers::Fixed;
 use readers::{F2Dot14Answer, FixedAnswer, Refusal};
 
 // Axis of variation in a variable font.
-#[derive(Drop)]
+#[derive(Clone, Copy)]
 pub struct VarAxis {
     pub index: u16,
     pub tag: u32,

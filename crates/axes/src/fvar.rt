@@ -12,7 +12,7 @@ use numbers::Fixed;
 use readers::{FixedAnswer, Half, Refusal, Word, fixed_at, u16_at, u32_at};
 
 // Font variations table: the numbers of its header.
-#[derive(Drop)]
+#[derive(Clone, Copy)]
 pub struct Fvar {
     pub axis_offset: u16,
     pub axis_count: u16,
@@ -21,40 +21,40 @@ pub struct Fvar {
     pub inst_size: u16,
 }
 
-#[derive(Drop)]
+#[derive(Clone, Copy)]
 pub enum AxisAnswer {
     Value(VarAxis),
     Refused(Refusal),
 }
 
-#[derive(Drop)]
+#[derive(Clone, Copy)]
 pub enum NameId {
     Absent,
     Named(u16),
 }
 
 // Named instance in a variable font; its values are a part of the table (`instance_values`).
-#[derive(Drop)]
+#[derive(Clone, Copy)]
 pub struct VarInstance {
     pub index: u16,
     pub name_id: u16,
     pub postscript_name_id: NameId,
 }
 
-#[derive(Drop)]
+#[derive(Clone, Copy)]
 pub enum InstanceAnswer {
     Value(VarInstance),
     Refused(Refusal),
 }
 
 // An instance's name id, and where its values start.
-#[derive(Drop)]
+#[derive(Clone, Copy)]
 pub(crate) struct Record {
     pub(crate) name_id: u16,
     pub(crate) coordinates: usize,
 }
 
-#[derive(Drop)]
+#[derive(Clone, Copy)]
 pub(crate) enum RecordAnswer {
     Value(Record),
     Refused(Refusal),

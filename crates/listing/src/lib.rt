@@ -1,5 +1,7 @@
 // The lines of the axis listing, one at a time. Each function puts its line at the start of a lent buffer and answers the line's
 // length; what the buffer holds behind the line stays.
+#![tactic(auto)]
+
 mod text;
 
 ghost use Rattle.std.specs.Prelude.{◌≡◌, length};

@@ -1,16 +1,18 @@
 // Numbers in a text. A text is a list of ASCII codes.
+#![tactic(auto)]
+
 ghost use Rattle.std.specs.Prelude.{◌≡◌, ◌≤◌, from_bits};
 ghost use Rattle.std.specs.Float.{binary32};
 ghost use Rattle.numerals.specs.Parse.{said, said_place, digit_of, number_in, place_in, bits_of, bits_of_minus, integer_bits, float_bits};
 
 // What a text of digits says.
-#[derive(Drop)]
+#[derive(Clone, Copy)]
 pub enum Parsed {
     Value(u32),
     Not,
 }
 
-#[derive(Drop)]
+#[derive(Clone, Copy)]
 pub enum Place {
     Value(u16),
     Not,

@@ -7,7 +7,7 @@ use mathlib.Core.List.{[], ◌∷◌}
 use lib.Dec.{T as Holds}
 use lib.ListN.{length}
 use seplogic.Ra.Ura.{Ura}
-use mir.Syntax.{Ty, Name, Fn, Body, local, value_local, named, erased, imm, ty_ref, ty_int, w8, w16, place, field, copy, rv_opd, assign, call, seq, return}
+use mir.Syntax.{Ty, Callee, Fn, Body, local, value_local, named, erased, imm, ty_ref, ty_int, w8, w16, place, field, copy, rv_opd, assign, call, seq, return}
 use mir.Val.{Val, WT, has_ty, vint}
 use base.Logic.{SProp, ent, sep, emp, via, fst∗, snd∗, ex_e, id⊢}
 use base.Fml.{Lft, Share, Fml, ftrue, flft}
@@ -82,7 +82,7 @@ module _ (X R : RattleType) (Says : R.Denot → Opened → X.Denot → Type 0) w
       Work = triple_of 𝓛 Worked.signature (closing 𝓛 Worked work_clauses)
 
   -- τ and σ are the MIR types of X and R, and #work the function that is called
-  module _ (τ σ : Ty) (#work : Name) where
+  module _ (τ σ : Ty) (#work : Callee) where
     -- the method's MIR: local 3 + i is the struct's field i
     abbrev takes : ℕ → ℕ → Body
     takes i j = assign (place i []) (rv_opd (copy (place 1 (field j ∷ []))))
@@ -91,6 +91,8 @@ module _ (X R : RattleType) (Says : R.Denot → Opened → X.Denot → Type 0) w
     function = record {
       lifetimes = 1;
       outlives = [];
+      ty_params = [];
+      givens = 0;
       params = 2;
       locals = local σ value_local ∷ local (T'.mir (named 0)) value_local ∷ local τ value_local ∷ local (slice_ty (ty_ref erased imm (ty_int w8))) value_local
           ∷ local (slice_ty (ty_ref erased imm (ty_int w16))) value_local ∷ local (ty_int w16) value_local ∷ local (ty_int w16) value_local ∷ local (ty_int w16) value_local ∷ [];
@@ -128,7 +130,7 @@ module _ (X R : RattleType) (Says : R.Denot → Opened → X.Denot → Type 0) w
 
         -- what the function is passed
         abbrev passed : Vals Worked.signature (κ, tt)
-        passed = (val x ∷ [], (slice_val d.«data».ptr (length d.«data».now) ∷ [], (slice_val d.coords.ref_ptr (length d.coords.now) ∷ [], (vint w16 d.rec_size ∷ [], (vint w16 d.rec_count ∷ [], (vint w16 d.store ∷ [], tt))))))
+        passed = (val x ∷ [], (slice_val d.«data».ref_ptr (length d.«data».now) ∷ [], (slice_val d.coords.ref_ptr (length d.coords.now) ∷ [], (vint w16 d.rec_size ∷ [], (vint w16 d.rec_count ∷ [], (vint w16 d.store ∷ [], tt))))))
 
         abbrev to : (Work 𝓤 𝓛).Ghost
         to = (((κ, tt), (q, tt), tt, (x, vd), passed), tt)

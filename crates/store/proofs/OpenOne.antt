@@ -15,7 +15,7 @@ use prog.Routine.{Routine}
 use types.Logic.{Logic, sem}
 use contract.Conj.{conj, conj_i, conj_l, conj_r, conj_mono}
 use contract.Monad.{Fun, fact, fact_use, fact_mono, ex-conj, conj-ex}
-use denote.Ref.{Bor}
+use denote.Ref.{Bor, MutBor}
 use denote.Triple.Clauses.{ensured, lasts}
 use Rattle.readers.specs.Answers.{outcome_fixed}
 use Rattle.readers.specs.declared.FixedAnswer.{FixedAnswer}
@@ -82,21 +82,21 @@ one_place part part' whole n same p q some =
     λ i. ((here.0 ∙ sym there.0) i, (here.1 ∙ sym there.1) i)
 
 -- Of `Mvar::new`: last n says that n is the last value of the number beside the answer.
-module _ {M : Type 1} {𝓤 : Ura M} (𝓛 : Logic 𝓤) (mem : Memory → SProp 𝓤) (run : Routine → Fun 𝓤) (κ κ' : Lft) (font : Bor (List ℕ)) (start : ℕ) (coords : Bor (List ℤ)) (number : Bor ℕ) where
+module _ {M : Type 1} {𝓤 : Ura M} (𝓛 : Logic 𝓤) (mem : Memory → SProp 𝓤) (run : Routine → Fun 𝓤) (κ κ' : Lft) (font : Bor (List ℕ)) (start : ℕ) (coords : Bor (List ℤ)) (number : MutBor ℕ) where
   abbrev pub new_clauses : Mvar → SProp 𝓤
   new_clauses m = ensured 𝓛 opening.ended (opening.clauses 𝓛 mem run) (κ, (κ', tt)) (font, (start, (coords, (number, tt)))) tt m
 
   abbrev pub last : ℕ → SProp 𝓤
   last n = sem 𝓛 (lasts opening.ended (κ, (κ', tt)) (font, (start, (coords, (number, tt)))) (tt, (tt, (tt, (n, tt)))))
 
-pub new_said : {M : Type 1} {𝓤 : Ura M} (𝓛 : Logic 𝓤) (mem : Memory → SProp 𝓤) (run : Routine → Fun 𝓤) (κ κ' : Lft) (font : Bor (List ℕ)) (start : ℕ) (coords : Bor (List ℤ)) (number : Bor ℕ) (m : Mvar)
+pub new_said : {M : Type 1} {𝓤 : Ura M} (𝓛 : Logic 𝓤) (mem : Memory → SProp 𝓤) (run : Routine → Fun 𝓤) (κ κ' : Lft) (font : Bor (List ℕ)) (start : ℕ) (coords : Bor (List ℤ)) (number : MutBor ℕ) (m : Mvar)
     → ent 𝓤 (new_clauses 𝓛 mem run κ κ' font start coords number m) (ex 𝓤 (λ (n : ℕ). sep 𝓤 (last 𝓛 mem run κ κ' font start coords number n) (fact 𝓤 (Opens font start coords m n))))
 new_said {𝓤 = 𝓤} 𝓛 mem run κ κ' font start coords number m =
     ex_e 𝓤 _ (λ ws. ex_i 𝓤 (λ (n : ℕ). sep 𝓤 (last 𝓛 mem run κ κ' font start coords number n) (fact 𝓤 (Opens font start coords m n))) ws.1.1.1.0)
 
 -- A part lies where another does, unless it is empty.
 abbrev pub SamePlace : {X : Type 0} → Bor (List X) → Bor (List X) → Type 0
-SamePlace part part' = 0 < length part.now → part.ref_ptr ≡ part'.ptr
+SamePlace part part' = 0 < length part.now → part.ref_ptr ≡ part'.ref_ptr
 
 alike : (font : Bor (List ℕ)) (start : ℕ) (coords : Bor (List ℤ)) (m m' : Mvar) (n n' : ℕ) → Opens font start coords m n → Opens font start coords m' n'
     → (opened_of m ≡ opened_of m') × (n ≡ n') × SamePlace m.«data» m'.«data» × SamePlace m.coords m'.coords
@@ -108,7 +108,7 @@ alike font start coords m m' n n' p q =
       one_place m.coords m'.coords coords 0 (ap (λ (o : Opened). o.coords) same) p.3 q.3,
     )
 
-pub new_one : {M : Type 1} {𝓤 : Ura M} (𝓛 : Logic 𝓤) (mem : Memory → SProp 𝓤) (run : Routine → Fun 𝓤) (κ κ' : Lft) (font : Bor (List ℕ)) (start : ℕ) (coords : Bor (List ℤ)) (number : Bor ℕ) (m m' : Mvar)
+pub new_one : {M : Type 1} {𝓤 : Ura M} (𝓛 : Logic 𝓤) (mem : Memory → SProp 𝓤) (run : Routine → Fun 𝓤) (κ κ' : Lft) (font : Bor (List ℕ)) (start : ℕ) (coords : Bor (List ℤ)) (number : MutBor ℕ) (m m' : Mvar)
     → ent 𝓤 (conj 𝓤 (new_clauses 𝓛 mem run κ κ' font start coords number m) (new_clauses 𝓛 mem run κ κ' font start coords number m'))
     (ex 𝓤 (λ (n : ℕ). ex 𝓤 (λ (n' : ℕ). conj 𝓤 (conj 𝓤 (last 𝓛 mem run κ κ' font start coords number n) (last 𝓛 mem run κ κ' font start coords number n'))
     (fact 𝓤 ((opened_of m ≡ opened_of m') × (n ≡ n') × SamePlace m.«data» m'.«data» × SamePlace m.coords m'.coords)))))

@@ -35,7 +35,7 @@ opened_of m = opened_as m.«data».now m.coords.now m.rec_size m.rec_count m.sto
 
 -- A part lies in the whole, n elements from its start; where an empty one lies is not said.
 abbrev pub lies_at : {A : Type 0} → Bor (List A) → Bor (List A) → ℕ → Type 0
-lies_at part whole n = 0 < length part.now → (part.ref_ptr.0 ≡ whole.ptr.0) × (part.ref_ptr.1 ≡ whole.ptr.1 + n)
+lies_at part whole n = 0 < length part.now → (part.ref_ptr.0 ≡ whole.ref_ptr.0) × (part.ref_ptr.1 ≡ whole.ref_ptr.1 + n)
 
 -- What opening promises of the MVAR that it answers and of the number beside it: what it holds, the number, and where its two parts lie.
 abbrev pub Opens : Bor (List ℕ) → ℕ → Bor (List ℤ) → Mvar → ℕ → Type 0

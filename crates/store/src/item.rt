@@ -11,7 +11,7 @@ use numbers::Fixed;
 use readers::{FixedAnswer, Half, Refusal, Signed, Word, i8_at, i16_at, u16_at, u32_at};
 
 // The region list: its store, and its offset from there (DECISIONS 80).
-#[derive(Drop)]
+#[derive(Clone, Copy)]
 struct RegionList {
     store: u32,
     offset: u32,
@@ -19,14 +19,14 @@ struct RegionList {
     region_count: u16,
 }
 
-#[derive(Drop)]
+#[derive(Clone, Copy)]
 enum RegionListAnswer {
     Value(RegionList),
     Refused(Refusal),
 }
 
 // A subtable: its store, its offset from there, and how many entries of a row are words.
-#[derive(Drop)]
+#[derive(Clone, Copy)]
 struct ItemData {
     store: u32,
     offset: u32,
@@ -34,20 +34,20 @@ struct ItemData {
     word_count: u16,
 }
 
-#[derive(Drop)]
+#[derive(Clone, Copy)]
 enum ItemDataAnswer {
     Value(ItemData),
     Refused(Refusal),
 }
 
 // What a store has for the rows of a subtable.
-#[derive(Drop)]
+#[derive(Clone, Copy)]
 struct Item {
     list: RegionList,
     data: ItemData,
 }
 
-#[derive(Drop)]
+#[derive(Clone, Copy)]
 enum ItemAnswer {
     Value(Item),
     Refused(Refusal),

@@ -1,4 +1,6 @@
 // The item variation store and the tables that lead to it (swash's var.rs): HVAR and VVAR for a glyph's advance and bearing, MVAR for a font's measures.
+#![tactic(auto)]
+
 pub mod item;
 pub mod metric;
 pub mod mvar;

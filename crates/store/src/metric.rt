@@ -9,34 +9,34 @@ use crate::item::item_delta;
 use readers::{Byte, FixedAnswer, Half, Refusal, Word, u8_at, u16_at, u24_at, u32_at};
 
 // Which of a glyph's measures: advance width or height; left or top bearing.
-#[derive(Drop)]
+#[derive(Clone, Copy)]
 pub enum Measure {
     Advance,
     Bearing,
 }
 
 // Where a store has a delta.
-#[derive(Drop)]
+#[derive(Clone, Copy)]
 struct DeltaSetIndex {
     outer: u32,
     inner: u16,
 }
 
-#[derive(Drop)]
+#[derive(Clone, Copy)]
 enum DeltaSetAnswer {
     Value(DeltaSetIndex),
     Refused(Refusal),
 }
 
 // Where the delta of a measure is: a store, and the index of a delta set in it.
-#[derive(Drop)]
+#[derive(Clone, Copy)]
 pub struct Place {
     pub store: u32,
     pub outer: u32,
     pub inner: u16,
 }
 
-#[derive(Drop)]
+#[derive(Clone, Copy)]
 pub enum PlaceAnswer {
     Value(Place),
     Refused(Refusal),

@@ -13,21 +13,21 @@ use crate::mvar_deltas::{MeasureDeltas, Wanted, tag_deltas};
 use readers::{FixedAnswer, Half, Refusal, Word, u16_at, u32_at};
 
 // The numbers of the header.
-#[derive(Drop)]
+#[derive(Clone, Copy)]
 pub struct Header {
     pub rec_size: u16,
     pub rec_count: u16,
     pub store: u16,
 }
 
-#[derive(Drop)]
+#[derive(Clone, Copy)]
 pub enum HeaderAnswer {
     Value(Header),
     Refused(Refusal),
 }
 
 // Where a record starts.
-#[derive(Drop)]
+#[derive(Clone, Copy)]
 pub enum Found {
     At(usize),
     Refused(Refusal),
@@ -207,7 +207,7 @@ fn opened_coords<'a>(coords: &'a [i16], rec_count: u16) -> &'a [i16]
 }
 
 // Metrics variation table, opened: it keeps the part of the font and the coordinates together. Whatever its fields hold, each method has one answer.
-#[derive(Drop)]
+#[derive(Clone, Copy)]
 pub struct Mvar<'a> {
     pub data: &'a [u8],
     pub coords: &'a [i16],

@@ -9,7 +9,7 @@ use crate::mvar::tag_float;
 use crate::mvar_tags::*;
 
 // Which deltas are asked for.
-#[derive(Drop)]
+#[derive(Clone, Copy)]
 pub enum Wanted {
     // Ascender and descender alone, as a synthesized advance takes them.
     Ascents,
@@ -20,7 +20,7 @@ pub enum Wanted {
 }
 
 // Deltas by their tags; 0.0 for one that is refused, and for one that was not asked for.
-#[derive(Drop)]
+#[derive(Clone, Copy)]
 pub struct MeasureDeltas {
     pub hasc: f32,
     pub hdsc: f32,

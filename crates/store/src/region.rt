@@ -11,14 +11,14 @@ use numbers::{F2Dot14, Fixed};
 use readers::{FixedAnswer, Refusal};
 
 // What a triple makes of a scalar: the next one; or the coordinate is outside.
-#[derive(Drop)]
+#[derive(Clone, Copy)]
 enum Tent {
     Next(Fixed),
     Outside,
 }
 
 // The same, where the triple may be cut.
-#[derive(Drop)]
+#[derive(Clone, Copy)]
 enum AxisAnswer {
     Next(Fixed),
     Outside,

@@ -1,0 +1,15 @@
+-- `axes::fvar::Fvar::find_by_tag` meets its contract. Assumes nothing.
+use Prim.Native.Nat.{◌≤◌, ◌-◌}
+use mathlib.Core.Path.{◌≡◌}
+use Rattle.readers.specs.Reading.{done}
+use Rattle.readers.specs.Walk.{walk}
+use Rattle.readers.specs.Outcome.{refused}
+use Rattle.opentype.specs.Fvar.{tag_turn, axis_by_tag}
+use Rattle.axes.specs.FvarAnswers.{header}
+use Rattle.axes.proofs.fvar.Fvar.find_by_tag.Given as goal
+
+abbrev pub invariant-loop-i : goal.invariant-loop-i
+invariant-loop-i l = (l.i ≤ l.self.axis_count) × (walk (tag_turn l.table (header l.self) l.tag) (λ d. refused 4) l.self.axis_count l.i done ≡ axis_by_tag l.table (header l.self) l.tag)
+
+abbrev pub decreases-loop-i : goal.decreases-loop-i
+decreases-loop-i l = l.self.axis_count - l.i

@@ -12,7 +12,7 @@ use numbers::as_i16;
 use store::metric::{Measure, float_of, metric_delta};
 
 // A y coordinate of a glyph, if the font has one.
-#[derive(Drop)]
+#[derive(Clone, Copy)]
 pub enum Ordinate {
     Known(i16),
     Missing,
@@ -20,7 +20,7 @@ pub enum Ordinate {
 
 // What is the same for all glyphs of a font. Each call is lent the font and the coordinates and given the glyph's unvaried numbers; the offsets and counts of hmtx and
 // of the vertical tables are kept for whoever reads those.
-#[derive(Drop)]
+#[derive(Clone, Copy)]
 pub struct GlyphMetrics {
     pub units_per_em: u16,
     pub glyph_count: u16,

@@ -9,7 +9,7 @@ use crate::deltas::opened_deltas;
 use store::mvar_deltas::{MeasureDeltas, Wanted};
 
 // Global font metrics.
-#[derive(Drop)]
+#[derive(Clone, Copy)]
 pub struct Metrics {
     // Number of font design units per em unit.
     pub units_per_em: u16,

@@ -7,7 +7,7 @@ use crate::deltas::opened_deltas;
 use store::mvar_deltas::Wanted;
 
 // Of the tables, the offsets and counts are kept for whoever reads a glyph's unvaried numbers; VVAR's alone is used here.
-#[derive(Drop)]
+#[derive(Clone, Copy)]
 pub enum Vertical {
     VmtxGlyf {
         loca_fmt: u8,

@@ -11,7 +11,7 @@ use metrics::glyph::varied;
 use readers::{Half, Refusal, Signed};
 use store::metric::Measure;
 
-#[derive(Drop)]
+#[derive(Clone, Copy)]
 pub enum FloatAnswer {
     Value(f32),
     Refused(Refusal),

@@ -137,7 +137,7 @@ fn bearing_for(vertical: Vertical, font: &[u8], glyph_id: u16, y_max: Ordinate) 
     }
 }
 
-#[derive(Drop)]
+#[derive(Clone, Copy)]
 enum OrdinateAnswer {
     Value(Ordinate),
     Refused(Refusal),

@@ -3,7 +3,7 @@ ghost use Rattle.std.specs.Prelude.{◌≡◌, ◌^◌, ◌<◌};
 ghost use Rattle.readers.specs.Reading.{run};
 ghost use Rattle.opentype.specs.Search.{searched};
 ghost use Rattle.readers.specs.Answers.{outcome_i16};
-ghost use Rattle.opentype.specs.Vorg.{vert_origin_y_Metrics, vert_origin_y, origin_at};
+ghost use Rattle.opentype.specs.Vorg.{vert_origin_y_metrics, vert_origin_y, origin_at};
 
 use readers::{Half, Refusal, Signed, i16_at, u16_at};
 
@@ -29,7 +29,7 @@ pub fn origin(font: &[u8], vorg: u32, glyph_id: u16) -> Signed
 // MVAR's walk: the middle of what is left, whether or not the records are sorted.
 fn find(font: &[u8], base: usize, count: u16, glyph_id: u16, default: i16) -> Signed
     requires { base < 2 ^ 32 }
-    ensures { outcome_i16 result ≡ run font.now (searched (vert_origin_y_Metrics base) (vert_origin_y default) glyph_id count) }
+    ensures { outcome_i16 result ≡ run font.now (searched (vert_origin_y_metrics base) (vert_origin_y default) glyph_id count) }
 {
     let mut l: usize = 0;
     let mut h = count as usize;

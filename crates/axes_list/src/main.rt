@@ -1,4 +1,8 @@
 // Lists the axes of a bare fvar from standard input.
-fn main() {
-    lister::run();
+#![tactic(auto)]
+
+use std::io;
+
+fn main(rt: HostRuntime) -> io::Result<()> {
+    lister::run(&rt)
 }

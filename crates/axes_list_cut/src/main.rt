@@ -1,4 +1,8 @@
 // axes_list, run on three axes of which the last is cut.
-fn main() {
-    lister::run();
+#![tactic(auto)]
+
+use std::io;
+
+fn main(rt: HostRuntime) -> io::Result<()> {
+    lister::run(&rt)
 }

@@ -1,4 +1,8 @@
 // axes_list, run on 65,537 bytes.
-fn main() {
-    lister::run();
+#![tactic(auto)]
+
+use std::io;
+
+fn main(rt: HostRuntime) -> io::Result<()> {
+    lister::run(&rt)
 }

@@ -1,6 +1,7 @@
--- The laws that the proofs of `lister` share; what is listed by the input's length; whole listings, computed; no second answer.
+-- The laws that the proofs of `lister` share; what is listed by the input's length, and once it is read; whole listings, computed; no second answer.
 pub mod Short
 pub mod Lines
 pub mod Limit
+pub mod Passing
 pub mod Examples
 pub mod One

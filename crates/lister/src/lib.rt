@@ -1,12 +1,17 @@
 // The whole axis listing of an input, in a lent buffer; and the one function that reads an input and writes its listing.
-ghost use Rattle.std.specs.Prelude.{◌≡◌, ◌+◌, ◌≤◌, length};
+#![tactic(auto)]
+
+ghost use Rattle.std.specs.Prelude.{◌≡◌, ◌+◌, ◌<◌, ◌≤◌, length, take, IfOk, IfSome, OnOk};
+ghost use Rattle.std.specs.Io.{ReadsAtMost};
+ghost use Rattle.std.specs.Io.KnownBytes.{Appends, Consumes, IsAtEnd};
 ghost use Rattle.axes.specs.FvarAnswers.{header};
 ghost use Rattle.listing.specs.Text.{Put};
 ghost use Rattle.listing.specs.Lines.{counts_line, too_long_line, over, Leads};
 ghost use Rattle.lister.specs.Listing.{axis_text, table_text, listing};
 
 use axes::fvar::{AxisAnswer, Fvar};
-use libc::{STDIN_FILENO, STDOUT_FILENO};
+use std::io;
+use std::io::{Read, Write};
 
 // An input of more bytes is too long. One byte more is read, to know.
 const MOST: usize = 65_536;
@@ -102,14 +107,38 @@ pub fn list(input: &[u8], out: &mut [u8; ROOM]) -> usize
     }
 }
 
-// What every program over this library does: reads standard input, as far as it decides the listing, and writes the listing.
-// No contract can say what is read or written; it is lent nothing and answers nothing, and the programs are run.
-pub fn run()
-    ensures { result ≡ tt }
+// Puts an input's bytes at the start of a buffer, until it is full or the input ends, and answers how many they are.
+fn read_full<R: Read>(from: &mut R, buf: &mut [u8]) -> io::Result<usize>
+    ensures bound { ReadsAtMost result buf.new }
+    ensures bytes { IfOk result (λ n. Consumes (R.remaining from.old) (R.remaining from.new) (take n buf.new)) }
+    ensures end { IfOk result (λ n. n < length buf.new → IsAtEnd (R.remaining from.new)) }
+{
+    let mut done: usize = 0;
+    while done < buf.len() {
+        let n = from.read(&mut buf[done..])?;
+        if n == 0 {
+            break;
+        }
+        done += n;
+    }
+    Ok(done)
+}
+
+// Reads an input, as far as it decides the listing, and writes the listing.
+fn relay<R: Read, W: Write>(from: &mut R, to: &mut W) -> io::Result<()>
+    ensures { OnOk result (IfSome (R.remaining from.old) (λ input. Appends (W.contents to.old) (W.contents to.new) (listing input))) }
 {
     let mut input = [0u8; LOOK];
-    let n = io::read_full(STDIN_FILENO, &mut input);
+    let n = read_full(from, &mut input)?;
     let mut out = [0u8; ROOM];
     let end = list(&input[..n], &mut out);
-    io::write_all(STDOUT_FILENO, &out[..end]);
+    to.write_all(&out[..end])
+}
+
+// What every program over this library does: passes standard input through to standard output by `relay`. Which bytes the system
+// gives and takes no contract can say, so the programs are run.
+pub fn run(rt: &HostRuntime) -> io::Result<()>
+    ensures { IfOk result (λ done. done ≡ tt) }
+{
+    relay(&mut rt.reader(), &mut io::writer(rt))
 }

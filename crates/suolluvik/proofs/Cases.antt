@@ -2,7 +2,7 @@
 use Prim.Native.Nat.{ℕ}
 use mathlib.Core.Path.{◌≡◌, ap, ap₂, sym, ◌∙◌}
 use lib.Ieee.{Float}
-use Rattle.readers.specs.Outcome.{Outcome, value, refused}
+use Rattle.readers.specs.Outcome.{Outcome}
 use Rattle.readers.specs.Answers.{number_of}
 use Rattle.readers.specs.declared.Refusal.{Refusal}
 use Rattle.metrics.specs.Scale.{zero}

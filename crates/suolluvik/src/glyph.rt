@@ -12,7 +12,7 @@ use metrics::glyph::{GlyphMetrics, Ordinate, materialize_glyph_metrics};
 use metrics::vertical::Vertical;
 use readers::Refusal;
 
-#[derive(Drop)]
+#[derive(Clone, Copy)]
 enum VerticalAnswer {
     Value(Vertical),
     Refused(Refusal),

@@ -1,5 +1,7 @@
-// The library as masters and stations link it. A function that can refuse answers the refusal's number, 0 for none, and writes its values through `&mut`, zeros on a refusal; one that can't
+// The library that masters and stations call; `suolluvik_c` exports it. A function that can refuse answers the refusal's number, 0 for none, and writes its values through `&mut`, zeros on a refusal; one that can't
 // and has one value answers that.
+#![tactic(auto)]
+
 pub mod coords;
 pub mod counts;
 pub mod deltas;

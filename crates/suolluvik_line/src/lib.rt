@@ -1,5 +1,7 @@
-// What a line of type calls: filling, once, and the float of an advance, at each glyph (W-204). They are compiled by themselves, beside the rest of the library: so that what they call is drawn into them, but
+// What a line of type calls: filling, once, and the float of an advance, at each glyph (W-204). Their exports, in `suolluvik_line_c`, are compiled by themselves, beside the rest of the library: so that what they call is drawn into them, but
 // for a row's loop, and what filling shares with a delta at coordinates stays drawn into that.
+#![tactic(auto)]
+
 ghost use Rattle.std.specs.Prelude.{◌≡◌, length};
 ghost use Rattle.opentype.specs.Metric.{advance};
 ghost use Rattle.opentype.specs.Lines.{fill_count, filled, metric_delta_with};

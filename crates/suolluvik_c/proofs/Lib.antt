@@ -1,0 +1,2 @@
+-- No second answer.
+pub mod One

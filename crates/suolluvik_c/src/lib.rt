@@ -1,0 +1,11 @@
+// The library as masters and stations link it: for each function of `suolluvik` that is exported one of its name, which calls it and has its contract.
+#![tactic(auto)]
+
+pub mod coords;
+pub mod deltas;
+pub mod fvar;
+pub mod glyph;
+pub mod measures;
+pub mod scalars;
+pub mod tables;
+pub mod version;

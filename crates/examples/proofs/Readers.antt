@@ -37,12 +37,12 @@ unfolding reading
 first_byte_highest = (refl, refl, refl, refl, refl, refl)
 
 -- The highest bit is a sign.
-pub with_sign_lem :
+pub with_sign :
     (run (0xff ∷ []) (signed_at w8 0) ≡ value (negative 1))
     × (run (0xff ∷ 0xff ∷ []) (signed_at w16 0) ≡ value (negative 1))
     × (run (0xff ∷ 0xff ∷ 0xff ∷ 0xff ∷ []) (signed_at w32 0) ≡ value (negative 1))
 unfolding reading
-with_sign_lem = (refl, refl, refl)
+with_sign = (refl, refl, refl)
 
 -- The last byte is read.
 pub last_byte : run (7 ∷ []) (unsigned_at 1 0) ≡ value 7

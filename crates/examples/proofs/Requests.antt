@@ -23,7 +23,7 @@ use Rattle.opentype.proofs.MvarTable.{sorted}
 use Rattle.opentype.proofs.FootprintTable.{footing}
 use Rattle.opentype.proofs.LinesTable.{lining, ending, left_outside, run_out, mvar_list}
 use Rattle.opentype.proofs.XmtxTable.{origins}
-use Rattle.opentype.proofs.InstanceTable.{computing_instances, no_axes, one_axis_of, one_axis_lem, asked, names}
+use Rattle.opentype.proofs.InstanceTable.{computing_instances, no_axes, one_axis_of, one_axis, asked, names}
 use Rattle.metrics.proofs.MeasuresTable.{computing_measures}
 use Rattle.widths.specs.Adjusted.{adjusted_at, adjusted_footprint}
 use Rattle.widths.proofs.Table.{reading, s1_hmtx}
@@ -76,7 +76,7 @@ pub record Requests : Type 0 where
       × (mvar_delta one_of_two 2 hasc coords ≡ refused 3)
       × (mvar_delta one_of_two 2 hdsc (pos 16384 ∷ []) ≡ value (negative 6553600))
       × (mvar_delta (with_byte 67 0 sorted) 2 hdsc coords ≡ refused 3)
-  -- Widths from the font: hmtx or vmtx, VORG, and the adjusted width from one call. s1-hmtx is S1's font, with HVAR at 4, and behind it, at 51, an hmtx: two long records, 500 with -10 and 65535 with 20, then the bearings 30 and
+  -- Widths from the font: hmtx or vmtx, VORG, and the adjusted width from one call. s1_hmtx is S1's font, with HVAR at 4, and behind it, at 51, an hmtx: two long records, 500 with -10 and 65535 with 20, then the bearings 30 and
   -- -40. origins has a VORG at 2: the default 880, and records of the glyphs 5, 7 and 9.
   pub W-202 :
       -- "A glyph past the long records has the last advance"; the bearings alone begin with the first such glyph.
@@ -106,13 +106,13 @@ pub record Requests : Type 0 where
       × (adjusted_at (take 52 s1_hmtx) advance 51 2 4 0 (pos 8192 ∷ []) two ≡ refused 2)
       -- "Its footprint being the delta's and the two bytes of the advance used."
       × (adjusted_footprint s1_hmtx advance 51 2 4 0 ≡ metric_footprint s1_hmtx 4 advance 0 ++ bytes 51 2 ∷ [])
-  -- The PostScript name id of an instance. no-axes has one instance, whose name id is 257; its size is given, and what stands behind its first four bytes, at 20. one-axis has two, of ten bytes, at 36 and 46, with the ids 258 and 260; of one-axis-of the last id is given.
+  -- The PostScript name id of an instance. no_axes has one instance, whose name id is 257; its size is given, and what stands behind its first four bytes, at 20. one_axis has two, of ten bytes, at 36 and 46, with the ids 258 and 260; of one_axis_of the last id is given.
   pub W-203 :
       -- "The Rust reads it from the start of the table": 22 bytes, of which those at 4 are the axis offset, 16, that was answered. "OpenType puts it at the end of the instance's own record": 258.
       (run (no_axes 6 (1 ∷ 2 ∷ [])) (unsigned_at 2 4) ≡ value 16)
       × (asked (no_axes 6 (1 ∷ 2 ∷ [])) 0 ≡ names 0 257 (named 258))
-      × (asked one_axis_lem 0 ≡ names 0 257 (named 258))
-      × (asked one_axis_lem 1 ≡ names 1 259 (named 260))
+      × (asked one_axis 0 ≡ names 0 257 (named 258))
+      × (asked one_axis 1 ≡ names 1 259 (named 260))
       -- "0xFFFF says there is none."
       × (asked (no_axes 6 (0xff ∷ 0xff ∷ [])) 0 ≡ names 0 257 absent)
       × (asked (one_axis_of 10 (0xff ∷ 0xff ∷ [])) 1 ≡ names 1 259 absent)
@@ -122,7 +122,7 @@ pub record Requests : Type 0 where
       × (asked (no_axes 5 (1 ∷ 2 ∷ [])) 0 ≡ names 0 257 absent)
       × (asked (no_axes 8 (1 ∷ 2 ∷ 3 ∷ 4 ∷ [])) 0 ≡ names 0 257 absent)
       -- "Refusals: none new": 3; 2, also where there are no axes and just four bytes; 5.
-      × (asked one_axis_lem 2 ≡ refused 3)
+      × (asked one_axis 2 ≡ refused 3)
       × (asked (no_axes 6 []) 0 ≡ refused 2)
       × (asked (no_axes 1 (1 ∷ 2 ∷ [])) 0 ≡ refused 5)
   -- A list of scalars, filled once; the deltas that are read with it.

@@ -18,7 +18,7 @@ pub(crate) fn word_in(font: &[u8], at: usize) -> u32
 
 // The number of 1 to 4 bytes, `more` behind the first, that end with the byte `last`: the low bytes of the word that ends there.
 pub(crate) fn ending_in(font: &[u8], last: usize, more: u16) -> u32
-    requires le_last { (3 ≤ last) × (last < length font.now) }
+    requires last_in_bounds { (3 ≤ last) × (last < length font.now) }
     requires more_bound { more ≤ 3 }
     ensures { result ≡ big_endian (more + 1) font.now (last - more) }
 {

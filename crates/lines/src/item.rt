@@ -44,7 +44,7 @@ fn whole_row(
     scalars: &[i32],
 ) -> FixedAnswer
     requires region_count_in_bounds { region_count ≤ length scalars.now }
-    requires word_count_le_count { (word_count ≤ count) × (indexes + 2 * count ≤ row) × (row + (count + word_count) ≤ length font.now) }
+    requires row_in_bounds { (word_count ≤ count) × (indexes + 2 * count ≤ row) × (row + (count + word_count) ≤ length font.now) }
     ensures { outcome_fixed result ≡ run font.now (row_sum (scalar_from scalars.now) region_count (row_from indexes count word_count row)) }
 {
     let mut sum = Fixed::ZERO;
@@ -75,7 +75,7 @@ fn cut_row(
     scalars: &[i32],
 ) -> FixedAnswer
     requires region_count_in_bounds { region_count ≤ length scalars.now }
-    requires indexes_bound { (indexes < 2 ^ 40) × (row < 2 ^ 40) }
+    requires indexes_and_row_bound { (indexes < 2 ^ 40) × (row < 2 ^ 40) }
     ensures { outcome_fixed result ≡ run font.now (row_sum (scalar_from scalars.now) region_count (row_from indexes count word_count row)) }
 {
     let mut sum = Fixed::ZERO;

@@ -1,4 +1,4 @@
--- No second answer, and no second content of the buffer: over each public function's own contract. Assumes nothing.
+-- No second answer, and no second content of the buffer: over each public function's own contract; of `run`, where it reads and writes. Assumes nothing.
 use mathlib.Core.Path.{◌≡◌, refl}
 use mathlib.Core.Bool.{false≢true}
 use Rattle.std.specs.Prelude.{IsOk, Ok, Err}

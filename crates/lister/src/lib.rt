@@ -1,4 +1,4 @@
-// The whole axis listing of an input, in a lent buffer; and the one function that reads an input and writes its listing.
+// The whole axis listing of an input, in a lent buffer; and what reads an input and writes its listing.
 #![tactic(auto)]
 
 ghost use Rattle.std.specs.Prelude.{◌≡◌, ◌+◌, ◌<◌, ◌≤◌, length, take, IfOk, IfSome, OnOk};
@@ -135,8 +135,8 @@ fn relay<R: Read, W: Write>(from: &mut R, to: &mut W) -> io::Result<()>
     to.write_all(&out[..end])
 }
 
-// What every program over this library does: passes standard input through to standard output by `relay`. Which bytes the system
-// gives and takes no contract can say, so the programs are run.
+// What every program over this library does: `relay` from standard input to standard output. Which bytes the system gives and takes no
+// contract can say, so the programs are run.
 pub fn run(rt: &HostRuntime) -> io::Result<()>
     ensures { IfOk result (λ done. done ≡ tt) }
 {

@@ -54,13 +54,13 @@ unfolding footing s1_font
 S1-covers = ap (covered s1_font) S1-parts
 
 -- An axis is in use where its number is that of a triple, and the triple is not skipped.
-one_axis_lem : (b : Bool) → ((b && true) || false) ≡ b
-one_axis_lem true = refl
-one_axis_lem false = refl
+one_axis : (b : Bool) → ((b && true) || false) ≡ b
+one_axis true = refl
+one_axis false = refl
 
 pub S1-axes : (axis : ℕ) → uses s1_font (metric_footprint s1_font 4 advance 0) axis ≡ eqb 0 axis
 unfolding footing s1_font
-S1-axes axis = one_axis_lem (eqb 0 axis)
+S1-axes axis = one_axis (eqb 0 axis)
 
 -- Its bearing is refused at the map's offset, which is 0.
 pub S1-bearing-covers : covered s1_font (metric_footprint s1_font 4 bearing 0) ≡ 8 to 11 ++ 16 to 19
@@ -230,7 +230,7 @@ mvar_covers = refl
 
 pub mvar_axes : (axis : ℕ) → uses sorted (mvar_footprint sorted 2 hasc) axis ≡ eqb 0 axis
 unfolding footing
-mvar_axes axis = one_axis_lem (eqb 0 axis)
+mvar_axes axis = one_axis (eqb 0 axis)
 
 -- A tag that is not found has the header and the records.
 pub not_found_covers : covered sorted (mvar_footprint sorted 2 xhgt) ≡ 8 to 29

@@ -28,8 +28,8 @@ one_axis_of instance_size last =
     ++ 1 ∷ 1 ∷ 0 ∷ 0 ∷ 0 ∷ 1 ∷ 0 ∷ 0 ∷ 1 ∷ 2
     ∷ 1 ∷ 3 ∷ 0 ∷ 0 ∷ 0 ∷ 2 ∷ 0 ∷ 0 ∷ last
 
-abbrev pub one_axis_lem : List ℕ
-one_axis_lem = one_axis_of 10 (1 ∷ 4 ∷ [])
+abbrev pub one_axis : List ℕ
+one_axis = one_axis_of 10 (1 ∷ 4 ∷ [])
 
 -- Two axes, of 21 bytes from 18 on, and three instances: 257 with 258, 259 with 260, 261 with what is given.
 abbrev two_axes : List ℕ → List ℕ
@@ -49,8 +49,8 @@ names j id postscript = value (record { index = j; subfamily_name_id = id; post_
 -- At the end of the instance's own record: not at that number counted from the table's start, where the axis offset stands, 16; not at the end of the first record, or of the one before.
 pub own_record :
     (asked (no_axes 6 (1 ∷ 2 ∷ [])) 0 ≡ names 0 257 (named 258))
-    × (asked one_axis_lem 0 ≡ names 0 257 (named 258))
-    × (asked one_axis_lem 1 ≡ names 1 259 (named 260))
+    × (asked one_axis 0 ≡ names 0 257 (named 258))
+    × (asked one_axis 1 ≡ names 1 259 (named 260))
     × (asked (two_axes (1 ∷ 6 ∷ [])) 0 ≡ names 0 257 (named 258))
     × (asked (two_axes (1 ∷ 6 ∷ [])) 1 ≡ names 1 259 (named 260))
     × (asked (two_axes (1 ∷ 6 ∷ [])) 2 ≡ names 2 261 (named 262))
@@ -92,15 +92,15 @@ pub cut_behind_the_values :
     (asked (one_axis_of 10 []) 1 ≡ names 1 259 absent)
     × (asked (one_axis_of 10 (1 ∷ [])) 1 ≡ names 1 259 absent)
     × (asked (no_axes 6 (1 ∷ [])) 0 ≡ names 0 257 absent)
-    × (asked (take 53 one_axis_lem) 1 ≡ refused 2)
+    × (asked (take 53 one_axis) 1 ≡ refused 2)
     × (asked (one_axis_of 10 []) 0 ≡ names 0 257 (named 258))
 unfolding computing_instances
 cut_behind_the_values = (refl, refl, refl, refl, refl)
 
 -- The refusals, in their order, are those of the record: an index at the count; a name id that is cut, then values, also where there are no axes and just four bytes; then a size of 0 or 1.
 pub refusals_of_instances :
-    (asked one_axis_lem 2 ≡ refused 3)
-    × (asked (take 16 one_axis_lem) 2 ≡ refused 3)
+    (asked one_axis 2 ≡ refused 3)
+    × (asked (take 16 one_axis) 2 ≡ refused 3)
     × (asked (take 17 (no_axes 6 [])) 0 ≡ refused 2)
     × (asked (no_axes 6 []) 0 ≡ refused 2)
     × (asked (no_axes 1 []) 0 ≡ refused 2)

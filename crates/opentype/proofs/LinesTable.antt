@@ -96,8 +96,8 @@ unfolding lining
 subtable_count_not_read = refl
 
 -- One axis and two regions, 0 1 1 and 0 1/2 1; a row 1 and 2 of both.
-abbrev one_axis_lem : List ℕ
-one_axis_lem =
+abbrev one_axis : List ℕ
+one_axis =
     hvar
     ++ (0 ∷ 1 ∷ 0 ∷ 0 ∷ 0 ∷ 12 ∷ 0 ∷ 1 ∷ 0 ∷ 0 ∷ 0 ∷ 28
     ∷ 0 ∷ 1 ∷ 0 ∷ 2 ∷ 0 ∷ 0 ∷ 0x40 ∷ 0 ∷ 0x40 ∷ 0 ∷ 0 ∷ 0 ∷ 0x20 ∷ 0 ∷ 0x40 ∷ 0
@@ -105,9 +105,9 @@ one_axis_lem =
     ∷ [])
 
 -- Regions are counted, not axes.
-pub more_regions_than_axes : (filled one_axis_lem 20 (pos 0x1000 ∷ []) (pos 7 ∷ pos 7 ∷ pos 7 ∷ []) ≡ pos 16384 ∷ pos 32768 ∷ pos 7 ∷ [])
-    × (item_delta_with one_axis_lem 20 0 0 (pos 5 ∷ []) ≡ refused 7)
-    × (item_delta_with one_axis_lem 20 0 0 (pos 5 ∷ pos 6 ∷ []) ≡ value (pos 17))
+pub more_regions_than_axes : (filled one_axis 20 (pos 0x1000 ∷ []) (pos 7 ∷ pos 7 ∷ pos 7 ∷ []) ≡ pos 16384 ∷ pos 32768 ∷ pos 7 ∷ [])
+    × (item_delta_with one_axis 20 0 0 (pos 5 ∷ []) ≡ refused 7)
+    × (item_delta_with one_axis 20 0 0 (pos 5 ∷ pos 6 ∷ []) ≡ value (pos 17))
 unfolding lining
 more_regions_than_axes = (refl, refl, refl)
 

@@ -1,13 +1,14 @@
 // Cases of the item variation store, of a glyph's deltas and of MVAR, and its tags.
 use crate::parse::{Parsed, Place, Size};
+use crate::print::Output;
 use crate::words::{count, same, which, word};
-use crate::{Buffer, parse, print};
+use crate::{parse, print};
 use readers::FixedAnswer;
 use store::mvar::{Header, HeaderAnswer};
 use store::mvar_tags::*;
 use store::{item, metric, mvar};
 
-#[derive(Drop)]
+#[derive(Clone, Copy)]
 pub(crate) enum Answer {
     Delta(FixedAnswer),
     Float(f32),
@@ -16,36 +17,36 @@ pub(crate) enum Answer {
     NoCase,
 }
 
-pub(crate) fn put(answer: Answer, out: &mut Buffer, waiting: usize) -> usize {
+pub(crate) fn put(answer: Answer, out: &mut Output) {
     match answer {
-        Answer::Delta(delta) => print::put_fixed(out, waiting, delta),
+        Answer::Delta(delta) => print::put_fixed(out, delta),
         Answer::Float(x) => {
-            let at = print::put_text(out, waiting, b"value");
-            print::put_next_float(out, at, x)
+            print::put_text(out, b"value");
+            print::put_next_float(out, x)
         }
-        Answer::Opened(header) => put_header(header, out, waiting),
-        Answer::Tags => put_tags(out, waiting),
-        Answer::NoCase => print::put(out, waiting, b'?'),
+        Answer::Opened(header) => put_header(header, out),
+        Answer::Tags => put_tags(out),
+        Answer::NoCase => print::put(out, b'?'),
     }
 }
 
-fn put_header(answer: HeaderAnswer, out: &mut Buffer, waiting: usize) -> usize {
+fn put_header(answer: HeaderAnswer, out: &mut Output) {
     match answer {
-        HeaderAnswer::Value(header) => put_numbers(header, out, waiting),
-        HeaderAnswer::Refused(r) => print::put_refused(out, waiting, readers::number(r)),
+        HeaderAnswer::Value(header) => put_numbers(header, out),
+        HeaderAnswer::Refused(r) => print::put_refused(out, readers::number(r)),
     }
 }
 
-fn put_numbers(header: Header, out: &mut Buffer, waiting: usize) -> usize {
+fn put_numbers(header: Header, out: &mut Output) {
     let numbers = [
         header.rec_size as u64,
         header.rec_count as u64,
         header.store as u64,
     ];
-    print::put_values(out, waiting, &numbers)
+    print::put_values(out, &numbers)
 }
 
-fn put_tags(out: &mut Buffer, waiting: usize) -> usize {
+fn put_tags(out: &mut Output) {
     let tags = [
         HASC as u64,
         HDSC as u64,
@@ -76,7 +77,7 @@ fn put_tags(out: &mut Buffer, waiting: usize) -> usize {
         SPXS as u64,
         SPYS as u64,
     ];
-    print::put_values(out, waiting, &tags)
+    print::put_values(out, &tags)
 }
 
 // The coordinates are a case's last word; opening an MVAR has none, and its tags have no word.
@@ -105,7 +106,7 @@ fn of_opening(line: &[u8]) -> Answer {
 }
 
 fn of_font(line: &[u8], coords: &[u8]) -> Answer {
-    let mut bytes = io::large_buffer();
+    let mut bytes = parse::empty_bytes();
     let Size::Value(size) = parse::bytes(word(line, 1), &mut bytes) else {
         return Answer::NoCase;
     };

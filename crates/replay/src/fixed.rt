@@ -1,10 +1,11 @@
 // Cases of the 16.16 arithmetic.
 use crate::parse::{Parsed, Place};
+use crate::print::Output;
 use crate::words::{count, same, which, word};
-use crate::{Buffer, parse, print};
+use crate::{parse, print};
 use numbers::{F2Dot14, Fixed};
 
-#[derive(Drop)]
+#[derive(Clone, Copy)]
 pub(crate) enum Answer {
     // by its 32 bits
     Integer(u32),
@@ -13,12 +14,12 @@ pub(crate) enum Answer {
     NoCase,
 }
 
-pub(crate) fn put(answer: Answer, out: &mut Buffer, waiting: usize) -> usize {
+pub(crate) fn put(answer: Answer, out: &mut Output) {
     match answer {
-        Answer::Integer(n) => print::put_integer(out, waiting, n),
-        Answer::Float(x) => print::put_float(out, waiting, x),
-        Answer::Sum(n) => print::put_natural(out, waiting, n as u64),
-        Answer::NoCase => print::put(out, waiting, b'?'),
+        Answer::Integer(n) => print::put_integer(out, n),
+        Answer::Float(x) => print::put_float(out, x),
+        Answer::Sum(n) => print::put_natural(out, n as u64),
+        Answer::NoCase => print::put(out, b'?'),
     }
 }
 

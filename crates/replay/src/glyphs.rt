@@ -1,12 +1,13 @@
 // Cases of a glyph's advances, bearings and vertical origin.
 use crate::parse::{Bits, Coord, Parsed, Place, Size};
+use crate::print::Output;
 use crate::words::{count, same, which, word};
-use crate::{Buffer, parse, print};
+use crate::{parse, print};
 use metrics::glyph;
 use metrics::glyph::{GlyphMetrics, Ordinate};
 use metrics::vertical::Vertical;
 
-#[derive(Drop)]
+#[derive(Clone, Copy)]
 pub(crate) enum Answer {
     Float(f32),
     Flag(bool),
@@ -14,30 +15,30 @@ pub(crate) enum Answer {
 }
 
 // Glyph metrics by a word of a case, if it says some.
-#[derive(Drop)]
+#[derive(Clone, Copy)]
 enum Unvaried {
     Value(GlyphMetrics),
     Not,
 }
 
 // A y coordinate by a word of a case, if it says one or that it is missing.
-#[derive(Drop)]
+#[derive(Clone, Copy)]
 pub(crate) enum Given {
     Value(Ordinate),
     Not,
 }
 
-pub(crate) fn put(answer: Answer, out: &mut Buffer, waiting: usize) -> usize {
+pub(crate) fn put(answer: Answer, out: &mut Output) {
     match answer {
         Answer::Float(x) => {
-            let at = print::put_text(out, waiting, b"value");
-            print::put_next_float(out, at, x)
+            print::put_text(out, b"value");
+            print::put_next_float(out, x)
         }
         Answer::Flag(flag) => {
-            let at = print::put_text(out, waiting, b"value");
-            print::put_next(out, at, if flag { 1 } else { 0 })
+            print::put_text(out, b"value");
+            print::put_next(out, if flag { 1 } else { 0 })
         }
-        Answer::NoCase => print::put(out, waiting, b'?'),
+        Answer::NoCase => print::put(out, b'?'),
     }
 }
 
@@ -192,7 +193,7 @@ fn synthesized(words: &Bits, units_per_em: u16) -> Unvaried {
 
 // A font, a word of its own, a glyph, coordinates.
 fn of_font(line: &[u8]) -> Answer {
-    let mut bytes = io::large_buffer();
+    let mut bytes = parse::empty_bytes();
     let Size::Value(size) = parse::bytes(word(line, 1), &mut bytes) else {
         return Answer::NoCase;
     };

@@ -1,24 +1,25 @@
 // Cases of a font's measures.
 use crate::parse::{Bits, Parsed, Place, Size};
+use crate::print::Output;
 use crate::words::{count, same, word};
-use crate::{Buffer, parse, print};
+use crate::{parse, print};
 use metrics::measures;
 use metrics::measures::Metrics;
 
-#[derive(Drop)]
+#[derive(Clone, Copy)]
 pub(crate) enum Answer {
     Value(Metrics),
     NoCase,
 }
 
-pub(crate) fn put(answer: Answer, out: &mut Buffer, waiting: usize) -> usize {
+pub(crate) fn put(answer: Answer, out: &mut Output) {
     match answer {
-        Answer::Value(m) => put_measures(m, out, waiting),
-        Answer::NoCase => print::put(out, waiting, b'?'),
+        Answer::Value(m) => put_measures(m, out),
+        Answer::NoCase => print::put(out, b'?'),
     }
 }
 
-fn put_measures(m: Metrics, out: &mut Buffer, waiting: usize) -> usize {
+fn put_measures(m: Metrics, out: &mut Output) {
     let floats = [
         m.ascent,
         m.descent,
@@ -34,8 +35,8 @@ fn put_measures(m: Metrics, out: &mut Buffer, waiting: usize) -> usize {
         m.strikeout_offset,
         m.stroke_size,
     ];
-    let at = print::put_text(out, waiting, b"value");
-    print::put_floats(out, at, &floats)
+    print::put_text(out, b"value");
+    print::put_floats(out, &floats)
 }
 
 // The measures are a case's last word.
@@ -81,7 +82,7 @@ fn of_font(line: &[u8]) -> Answer {
     if !same(word(line, 0), b"materialize_metrics") {
         return Answer::NoCase;
     }
-    let mut bytes = io::large_buffer();
+    let mut bytes = parse::empty_bytes();
     let Size::Value(size) = parse::bytes(word(line, 1), &mut bytes) else {
         return Answer::NoCase;
     };

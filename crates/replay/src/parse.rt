@@ -17,6 +17,10 @@ pub(crate) type Halves = [i16; 256];
 pub(crate) type Words = [i32; 256];
 
 // Made by calls, so that no caller's proof has all their elements in it.
+pub(crate) fn empty_bytes() -> Buffer {
+    [0; 65536]
+}
+
 pub(crate) fn empty_bits() -> Bits {
     [0; 256]
 }
@@ -33,19 +37,19 @@ fn empty_words() -> Words {
     [0; 256]
 }
 
-#[derive(Drop)]
+#[derive(Clone, Copy)]
 pub(crate) enum Size {
     Value(usize),
     Not,
 }
 
-#[derive(Drop)]
+#[derive(Clone, Copy)]
 enum Byte {
     Value(u8),
     Not,
 }
 
-#[derive(Drop)]
+#[derive(Clone, Copy)]
 pub(crate) enum Coord {
     Value(i16),
     Not,

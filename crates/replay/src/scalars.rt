@@ -3,8 +3,9 @@ ghost use Rattle.std.specs.Prelude.{◌≤◌};
 
 use crate::deltas::Answer;
 use crate::parse::{Bits, Parsed, Place, Size};
+use crate::print::Output;
 use crate::words::{count, which, word};
-use crate::{Buffer, deltas, parse, print};
+use crate::{deltas, parse, print};
 use lines::filling::fill_scalars;
 use lines::{item, metric, mvar};
 use numbers::Fixed;
@@ -12,7 +13,7 @@ use readers::{Half, Word};
 use store::metric::store_of;
 
 // What a delta is asked of: a row, a glyph or a tag.
-#[derive(Drop)]
+#[derive(Clone, Copy)]
 enum Question {
     Row(u32, u16),
     Glyph(u16),
@@ -53,70 +54,58 @@ pub(crate) fn takes(line: &[u8]) -> bool {
 }
 
 // The first argument is a font, the second an offset.
-pub(crate) fn put_line(line: &[u8], out: &mut Buffer, waiting: usize) -> usize {
-    let mut bytes = io::large_buffer();
+pub(crate) fn put_line(line: &[u8], out: &mut Output) {
+    let mut bytes = parse::empty_bytes();
     let Size::Value(size) = parse::bytes(word(line, 1), &mut bytes) else {
-        return print::put(out, waiting, b'?');
+        return print::put(out, b'?');
     };
     let Parsed::Value(offset) = parse::natural(word(line, 2)) else {
-        return print::put(out, waiting, b'?');
+        return print::put(out, b'?');
     };
-    put_case(line, parse::first_bytes(&bytes, size), offset, out, waiting)
+    put_case(line, parse::first_bytes(&bytes, size), offset, out)
 }
 
-fn put_case(line: &[u8], font: &[u8], offset: u32, out: &mut Buffer, waiting: usize) -> usize {
+fn put_case(line: &[u8], font: &[u8], offset: u32, out: &mut Output) {
     match which_filling(word(line, 0)) {
-        0 => put_store_offset(line, font, offset, out, waiting),
-        1 => put_mvar_store_offset(line, font, offset, out, waiting),
-        2 => put_fill(line, font, offset, out, waiting),
-        _ => put_delta(line, font, offset, out, waiting),
+        0 => put_store_offset(line, font, offset, out),
+        1 => put_mvar_store_offset(line, font, offset, out),
+        2 => put_fill(line, font, offset, out),
+        _ => put_delta(line, font, offset, out),
     }
 }
 
-fn put_store_offset(
-    line: &[u8],
-    font: &[u8],
-    xvar: u32,
-    out: &mut Buffer,
-    waiting: usize,
-) -> usize {
+fn put_store_offset(line: &[u8], font: &[u8], xvar: u32, out: &mut Output) {
     if count(line) != 3 {
-        return print::put(out, waiting, b'?');
+        return print::put(out, b'?');
     }
     match store_of(font, xvar) {
         Word::Value(n) => {
-            let at = print::put_text(out, waiting, b"value");
-            print::put_next(out, at, n as u64)
+            print::put_text(out, b"value");
+            print::put_next(out, n as u64)
         }
-        Word::Refused(r) => print::put_refused(out, waiting, readers::number(r)),
+        Word::Refused(r) => print::put_refused(out, readers::number(r)),
     }
 }
 
-fn put_mvar_store_offset(
-    line: &[u8],
-    font: &[u8],
-    offset: u32,
-    out: &mut Buffer,
-    waiting: usize,
-) -> usize {
+fn put_mvar_store_offset(line: &[u8], font: &[u8], offset: u32, out: &mut Output) {
     if count(line) != 3 {
-        return print::put(out, waiting, b'?');
+        return print::put(out, b'?');
     }
-    print::put_count(out, waiting, mvar::mvar_store(font, offset))
+    print::put_count(out, mvar::mvar_store(font, offset))
 }
 
 // The coordinates, then the list.
-fn put_fill(line: &[u8], font: &[u8], store: u32, out: &mut Buffer, waiting: usize) -> usize {
+fn put_fill(line: &[u8], font: &[u8], store: u32, out: &mut Output) {
     if count(line) != 5 {
-        return print::put(out, waiting, b'?');
+        return print::put(out, b'?');
     }
     let mut coords = parse::empty_halves(0);
     let Size::Value(n) = parse::halves(word(line, 3), &mut coords) else {
-        return print::put(out, waiting, b'?');
+        return print::put(out, b'?');
     };
     let mut bits = parse::empty_bits();
     let Size::Value(size) = parse::list(word(line, 4), &mut bits) else {
-        return print::put(out, waiting, b'?');
+        return print::put(out, b'?');
     };
     let mut list = parse::signed_words(&bits);
     let m = parse::at_most_256(size);
@@ -126,24 +115,17 @@ fn put_fill(line: &[u8], font: &[u8], store: u32, out: &mut Buffer, waiting: usi
         parse::first_halves(&coords, n),
         &mut list[0..m],
     );
-    let at = print::put_count(out, waiting, answer);
-    put_list(parse::first_words(&list, m), out, at)
+    print::put_count(out, answer);
+    put_list(parse::first_words(&list, m), out)
 }
 
 // The list is the last word; where it is filled before, the coordinates stand before it.
-fn put_delta(line: &[u8], font: &[u8], offset: u32, out: &mut Buffer, waiting: usize) -> usize {
+fn put_delta(line: &[u8], font: &[u8], offset: u32, out: &mut Output) {
     let with = which_with(word(line, 0));
     if with < 7 {
-        return put_with(line, font, offset, with, out, waiting);
+        return put_with(line, font, offset, with, out);
     }
-    put_filled(
-        line,
-        font,
-        offset,
-        which_filled(word(line, 0)),
-        out,
-        waiting,
-    )
+    put_filled(line, font, offset, which_filled(word(line, 0)), out)
 }
 
 // How many words a delta has before its coordinates or its list: a row has two numbers.
@@ -153,21 +135,14 @@ fn words_of(delta: usize) -> usize
     if delta == 0 { 5 } else { 4 }
 }
 
-fn put_with(
-    line: &[u8],
-    font: &[u8],
-    offset: u32,
-    delta: usize,
-    out: &mut Buffer,
-    waiting: usize,
-) -> usize {
+fn put_with(line: &[u8], font: &[u8], offset: u32, delta: usize, out: &mut Output) {
     let words = words_of(delta);
     if count(line) != words + 1 {
-        return print::put(out, waiting, b'?');
+        return print::put(out, b'?');
     }
     let mut bits = parse::empty_bits();
     let Size::Value(size) = parse::list(word(line, words), &mut bits) else {
-        return print::put(out, waiting, b'?');
+        return print::put(out, b'?');
     };
     let list = parse::signed_words(&bits);
     let answer = read(
@@ -177,31 +152,24 @@ fn put_with(
         asked(line, delta),
         parse::first_words(&list, size),
     );
-    deltas::put(answer, out, waiting)
+    deltas::put(answer, out)
 }
 
-fn put_filled(
-    line: &[u8],
-    font: &[u8],
-    offset: u32,
-    delta: usize,
-    out: &mut Buffer,
-    waiting: usize,
-) -> usize {
+fn put_filled(line: &[u8], font: &[u8], offset: u32, delta: usize, out: &mut Output) {
     let words = words_of(delta);
     if count(line) != words + 2 {
-        return print::put(out, waiting, b'?');
+        return print::put(out, b'?');
     }
     let mut coords = parse::empty_halves(0);
     let Size::Value(n) = parse::halves(word(line, words), &mut coords) else {
-        return print::put(out, waiting, b'?');
+        return print::put(out, b'?');
     };
     let mut bits = parse::empty_bits();
     let Size::Value(size) = parse::list(word(line, words + 1), &mut bits) else {
-        return print::put(out, waiting, b'?');
+        return print::put(out, b'?');
     };
     match asked(line, delta) {
-        Question::Not => print::put(out, waiting, b'?'),
+        Question::Not => print::put(out, b'?'),
         question => put_both(
             font,
             offset,
@@ -211,7 +179,6 @@ fn put_filled(
             &bits,
             size,
             out,
-            waiting,
         ),
     }
 }
@@ -225,17 +192,16 @@ fn put_both(
     coords: &[i16],
     bits: &Bits,
     size: usize,
-    out: &mut Buffer,
-    waiting: usize,
-) -> usize {
+    out: &mut Output,
+) {
     let mut list = parse::signed_words(bits);
     let m = parse::at_most_256(size);
     let filled = fill(font, offset, delta, coords, &mut list[0..m]);
-    let mut at = print::put_count(out, waiting, filled);
+    print::put_count(out, filled);
     let scalars = parse::first_words(&list, m);
-    at = put_list(scalars, out, at);
-    at = print::put(out, at, b' ');
-    deltas::put(read(font, offset, delta, question, scalars), out, at)
+    put_list(scalars, out);
+    print::put(out, b' ');
+    deltas::put(read(font, offset, delta, question, scalars), out)
 }
 
 // What stands behind the offset.
@@ -338,20 +304,19 @@ fn read_tag(font: &[u8], offset: u32, delta: usize, tag: u32, scalars: &[i32]) -
 }
 
 // A blank, and a list's elements, 32 bits each.
-fn put_list(list: &[i32], out: &mut Buffer, waiting: usize) -> usize {
-    let mut at = print::put(out, waiting, b' ');
+fn put_list(list: &[i32], out: &mut Output) {
+    print::put(out, b' ');
     if list.len() == 0 {
-        return print::put(out, at, b'-');
+        return print::put(out, b'-');
     }
     let mut i = 0;
     while i < list.len() {
-        at = print::put_comma(out, at, i);
-        at = put_word(out, at, list[i]);
+        print::put_comma(out, i);
+        put_word(out, list[i]);
         i += 1;
     }
-    at
 }
 
-fn put_word(out: &mut Buffer, waiting: usize, word: i32) -> usize {
-    print::put_bits(out, waiting, Fixed(word).to_bits())
+fn put_word(out: &mut Output, word: i32) {
+    print::put_bits(out, Fixed(word).to_bits())
 }

@@ -1,15 +1,16 @@
 // Cases of hmtx, vmtx and VORG, and of a glyph's measures from one call.
 use crate::glyphs::Given;
 use crate::parse::{Bits, Parsed, Place, Size};
+use crate::print::Output;
 use crate::words::{count, same, which, word};
-use crate::{Buffer, glyphs, parse, print};
+use crate::{glyphs, parse, print};
 use metrics::glyph::GlyphMetrics;
 use metrics::vertical::Vertical;
 use readers::{Half, Signed};
 use widths::adjusted::FloatAnswer;
 use widths::{adjusted, glyph, vorg, xmtx};
 
-#[derive(Drop)]
+#[derive(Clone, Copy)]
 pub(crate) enum Answer {
     Advance(Half),
     Ordinate(Signed),
@@ -18,38 +19,38 @@ pub(crate) enum Answer {
 }
 
 // Glyph metrics by a word of a case, if it says some.
-#[derive(Drop)]
+#[derive(Clone, Copy)]
 enum Record {
     Value(GlyphMetrics),
     Not,
 }
 
-pub(crate) fn put(answer: Answer, out: &mut Buffer, waiting: usize) -> usize {
+pub(crate) fn put(answer: Answer, out: &mut Output) {
     match answer {
-        Answer::Advance(x) => print::put_count(out, waiting, x),
-        Answer::Ordinate(y) => put_signed(y, out, waiting),
-        Answer::Measure(x) => put_measure(x, out, waiting),
-        Answer::NoCase => print::put(out, waiting, b'?'),
+        Answer::Advance(x) => print::put_count(out, x),
+        Answer::Ordinate(y) => put_signed(y, out),
+        Answer::Measure(x) => put_measure(x, out),
+        Answer::NoCase => print::put(out, b'?'),
     }
 }
 
-fn put_signed(answer: Signed, out: &mut Buffer, waiting: usize) -> usize {
+fn put_signed(answer: Signed, out: &mut Output) {
     match answer {
         Signed::Value(y) => {
-            let at = print::put_text(out, waiting, b"value ");
-            print::put_half(out, at, numbers::F2Dot14(y))
+            print::put_text(out, b"value ");
+            print::put_half(out, numbers::F2Dot14(y))
         }
-        Signed::Refused(r) => print::put_refused(out, waiting, readers::number(r)),
+        Signed::Refused(r) => print::put_refused(out, readers::number(r)),
     }
 }
 
-fn put_measure(answer: FloatAnswer, out: &mut Buffer, waiting: usize) -> usize {
+fn put_measure(answer: FloatAnswer, out: &mut Output) {
     match answer {
         FloatAnswer::Value(x) => {
-            let at = print::put_text(out, waiting, b"value");
-            print::put_next_float(out, at, x)
+            print::put_text(out, b"value");
+            print::put_next_float(out, x)
         }
-        FloatAnswer::Refused(r) => print::put_refused(out, waiting, readers::number(r)),
+        FloatAnswer::Refused(r) => print::put_refused(out, readers::number(r)),
     }
 }
 
@@ -76,7 +77,7 @@ fn of_font(line: &[u8], words: usize) -> Answer {
     if count(line) != words {
         return Answer::NoCase;
     }
-    let mut bytes = io::large_buffer();
+    let mut bytes = parse::empty_bytes();
     let Size::Value(size) = parse::bytes(word(line, 1), &mut bytes) else {
         return Answer::NoCase;
     };

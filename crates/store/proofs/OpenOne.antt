@@ -1,6 +1,6 @@
 -- No second answer: what the contracts of an MVAR's methods allow. Opening has one answer but for what it does not say, where an empty part lies; the deltas have one.
--- A function over a struct that holds a reference has no plain reading of its contract, so these theorems are over its own clauses, as the check makes them: NAME-clauses is what a call that answers r hands back,
--- NAME-said is the plain fact in it, and NAME-one says of two answers, where what is handed back meets the clauses of both, that they are the same. Assumes nothing.
+-- A function over a struct that holds a reference has no plain reading of its contract, so these theorems are over its own clauses, as the check makes them: NAME_clauses is what a call that answers r hands back,
+-- NAME_said is the plain fact in it, and NAME_one says of two answers, where what is handed back meets the clauses of both, that they are the same. Assumes nothing.
 use Prim.Native.Nat.{ℕ, ◌<◌}
 use mathlib.Core.Path.{◌≡◌, ap, sym, ◌∙◌, subst}
 use mathlib.Core.List.{List}

@@ -66,7 +66,7 @@ pub fn store_of(font: &[u8], base: u32) -> Word
 // Entry `index` of the entries at a position, each of `size` bytes.
 fn entry_at(font: &[u8], at: usize, size: u16, index: u16) -> Word
     requires at_bound { at < 2 ^ 40 }
-    requires le_size { (1 ≤ size) × (size ≤ 4) }
+    requires size_bound { (1 ≤ size) × (size ≤ 4) }
     ensures { outcome32 result ≡ run font.now (unsigned_at size (at + size * index)) }
 {
     let p = at + (size as usize) * (index as usize);

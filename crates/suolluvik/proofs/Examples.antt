@@ -10,7 +10,7 @@ use Rattle.readers.specs.Lent.{fill}
 use Rattle.opentype.specs.Fvar.{Instance, absent, named}
 use Rattle.opentype.specs.Metric.{advance, bearing, metric_delta}
 use Rattle.opentype.proofs.DeltaTable.{computing, s1_font}
-use Rattle.opentype.proofs.InstanceTable.{computing_instances, one_axis_of, one_axis_lem}
+use Rattle.opentype.proofs.InstanceTable.{computing_instances, one_axis_of, one_axis}
 use Rattle.metrics.specs.Scale.{float}
 use Rattle.metrics.specs.Measures.{materialized_metrics, linear_scaled, scaled_metrics}
 use Rattle.metrics.proofs.MeasuresTable.{computing_measures, mvar_font, default}
@@ -40,9 +40,9 @@ abbrev second : List ℕ → Instance
 second table = value_or no_instance (instance_in table 1)
 
 pub second_instance :
-    ((second one_axis_lem).subfamily_name_id ≡ 259)
-    × (is_named (second one_axis_lem).post_script_name_id ≡ 1)
-    × (name_or_zero (second one_axis_lem).post_script_name_id ≡ 260)
+    ((second one_axis).subfamily_name_id ≡ 259)
+    × (is_named (second one_axis).post_script_name_id ≡ 1)
+    × (name_or_zero (second one_axis).post_script_name_id ≡ 260)
     × (is_named (second (one_axis_of 10 (0xff ∷ 0xff ∷ []))).post_script_name_id ≡ 0)
     × (name_or_zero (second (one_axis_of 10 (0xff ∷ 0xff ∷ []))).post_script_name_id ≡ 0)
 unfolding computing_instances no_instance

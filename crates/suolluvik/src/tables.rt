@@ -3,7 +3,7 @@
 ghost use Rattle.std.specs.Prelude.{◌≡◌, pos};
 ghost use Rattle.readers.specs.Reading.{run};
 ghost use Rattle.readers.specs.Answers.{outcome16, outcome_i16};
-ghost use Rattle.opentype.specs.Metric.{advance as advanceOf, bearing};
+ghost use Rattle.opentype.specs.Metric.{advance as advance_of, bearing};
 ghost use Rattle.opentype.specs.Xmtx.{advance_at, sb_at};
 ghost use Rattle.opentype.specs.Vorg.{origin_at};
 ghost use Rattle.metrics.specs.Scale.{zero};
@@ -114,7 +114,7 @@ pub extern "C" fn suolluvik_adjusted_advance(
     scale: f32,
     value: &mut f32,
 ) -> u8
-    ensures { (result, value.new) ≡ numbered zero (adjusted_at font.now advanceOf xmtx long_metric_count xvar glyph_id coords.now scale) }
+    ensures { (result, value.new) ≡ numbered zero (adjusted_at font.now advance_of xmtx long_metric_count xvar glyph_id coords.now scale) }
 {
     let answer = adjusted_advance(font, xmtx, long_metric_count, xvar, glyph_id, coords, scale);
     measure_value(answer, value)

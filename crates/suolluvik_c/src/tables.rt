@@ -1,7 +1,7 @@
 // The exports of `suolluvik::tables`, for C: each calls it and has its contract.
 ghost use Rattle.std.specs.Prelude.{◌≡◌, pos};
 ghost use Rattle.readers.specs.Reading.{run};
-ghost use Rattle.opentype.specs.Metric.{advance as advanceOf, bearing};
+ghost use Rattle.opentype.specs.Metric.{advance as advance_of, bearing};
 ghost use Rattle.opentype.specs.Xmtx.{advance_at, sb_at};
 ghost use Rattle.opentype.specs.Vorg.{origin_at};
 ghost use Rattle.metrics.specs.Scale.{zero};
@@ -57,7 +57,7 @@ pub extern "C" fn suolluvik_adjusted_advance(
     scale: f32,
     value: &mut f32,
 ) -> u8
-    ensures { (result, value.new) ≡ numbered zero (adjusted_at font.now advanceOf xmtx long_metric_count xvar glyph_id coords.now scale) }
+    ensures { (result, value.new) ≡ numbered zero (adjusted_at font.now advance_of xmtx long_metric_count xvar glyph_id coords.now scale) }
 {
     suolluvik::tables::suolluvik_adjusted_advance(
         font,

@@ -74,8 +74,8 @@ adjusted_bearings = (refl, refl, refl, refl, refl)
 abbrev font : List ℕ
 font = h1_hmtx ++ origins
 
-abbrev with_vertical_lem : Vertical → GlyphMetrics
-with_vertical_lem vertical = record {
+abbrev with_vertical : Vertical → GlyphMetrics
+with_vertical vertical = record {
   units_per_em = 1000;
   glyph_count = 4;
   hmtx = 60;
@@ -97,46 +97,46 @@ made = synthesized 0 (float (pos 1000)) (float (pos 800))
 
 -- Glyph 2 is past the long records, not past the glyphs: the first of the bearings alone.
 pub read_widths :
-    (read_level font advance 0 [] (with_vertical_lem made) ≡ value (float (pos 1020)))
-    × (read_level font bearing 0 [] (with_vertical_lem made) ≡ value (float (pos 4)))
-    × (read_level font bearing 2 [] (with_vertical_lem made) ≡ value (float (pos 84)))
+    (read_level font advance 0 [] (with_vertical made) ≡ value (float (pos 1020)))
+    × (read_level font bearing 0 [] (with_vertical made) ≡ value (float (pos 4)))
+    × (read_level font bearing 2 [] (with_vertical made) ≡ value (float (pos 84)))
 unfolding reading
 read_widths = (refl, refl, refl)
 
 -- By vmtx, with glyf or with VORG. A synthesized height refuses nothing.
 pub read_heights :
-    (read_upright font advance 1 [] (with_vertical_lem (glyf 1 60)) ≡ value (float (pos 1022)))
-    × (read_upright font advance 0 [] (with_vertical_lem (vorg 2 60 0)) ≡ value (float (pos 1020)))
-    × (read_upright font advance 0 [] (with_vertical_lem (glyf 0 0)) ≡ refused 5)
-    × (read_upright font advance 0 [] (with_vertical_lem (vorg 2 0 74)) ≡ refused 1)
-    × (read_upright [] advance 0 [] (with_vertical_lem made) ≡ value (float (pos 2000)))
+    (read_upright font advance 1 [] (with_vertical (glyf 1 60)) ≡ value (float (pos 1022)))
+    × (read_upright font advance 0 [] (with_vertical (vorg 2 60 0)) ≡ value (float (pos 1020)))
+    × (read_upright font advance 0 [] (with_vertical (glyf 0 0)) ≡ refused 5)
+    × (read_upright font advance 0 [] (with_vertical (vorg 2 0 74)) ≡ refused 1)
+    × (read_upright [] advance 0 [] (with_vertical made) ≡ value (float (pos 2000)))
 unfolding reading
 read_heights = (refl, refl, refl, refl, refl)
 
 pub read_top_bearings :
-    (read_upright font bearing 2 [] (with_vertical_lem (glyf 2 60)) ≡ value (float (pos 84)))
-    × (read_upright font bearing 2 [] (with_vertical_lem (vorg 2 60 0)) ≡ value (float (pos 84)))
-    × (read_upright font bearing 0 [] (with_vertical_lem (glyf 2 0)) ≡ refused 1)
-    × (read_upright [] bearing 0 [] (with_vertical_lem made) ≡ value (float (pos 0)))
+    (read_upright font bearing 2 [] (with_vertical (glyf 2 60)) ≡ value (float (pos 84)))
+    × (read_upright font bearing 2 [] (with_vertical (vorg 2 60 0)) ≡ value (float (pos 84)))
+    × (read_upright font bearing 0 [] (with_vertical (glyf 2 0)) ≡ refused 1)
+    × (read_upright [] bearing 0 [] (with_vertical made) ≡ value (float (pos 0)))
 unfolding reading
 read_top_bearings = (refl, refl, refl, refl)
 
 -- With glyf (10 + (-10 + 12)·2)·2. Its bearing is asked for only where there is a yMax; else the origin is units per em, and nothing is refused.
 pub read_glyf_origins :
-    (read_vertical_origin font 0 [] (some (pos 10)) (with_vertical_lem (glyf 2 60)) ≡ value (float (pos 28)))
-    × (read_vertical_origin font 0 [] (some (pos 10)) (with_vertical_lem (glyf 0 0)) ≡ refused 5)
-    × (read_vertical_origin font 0 [] (some (pos 10)) (with_vertical_lem (glyf 2 0)) ≡ refused 1)
-    × (read_vertical_origin font 0 [] none (with_vertical_lem (glyf 0 0)) ≡ value (float (pos 2000)))
+    (read_vertical_origin font 0 [] (some (pos 10)) (with_vertical (glyf 2 60)) ≡ value (float (pos 28)))
+    × (read_vertical_origin font 0 [] (some (pos 10)) (with_vertical (glyf 0 0)) ≡ refused 5)
+    × (read_vertical_origin font 0 [] (some (pos 10)) (with_vertical (glyf 2 0)) ≡ refused 1)
+    × (read_vertical_origin font 0 [] none (with_vertical (glyf 0 0)) ≡ value (float (pos 2000)))
 unfolding reading
 read_glyf_origins = (refl, refl, refl, refl)
 
 -- With VORG its own origin or its default, scaled; no bearing is asked for. A VORG that refuses refuses the origin.
 pub read_vorg_origins :
-    (read_vertical_origin font 5 [] (some (pos 10)) (with_vertical_lem (vorg 0 0 74)) ≡ value (float (pos 20)))
-    × (read_vertical_origin font 6 [] none (with_vertical_lem (vorg 2 60 74)) ≡ value (float (pos 1760)))
-    × (read_vertical_origin font 5 [] none (with_vertical_lem (vorg 2 60 0)) ≡ refused 1)
-    × (read_vertical_origin (take 80 font) 5 [] none (with_vertical_lem (vorg 2 60 74)) ≡ refused 2)
-    × (read_vertical_origin [] 5 [] (some (pos 10)) (with_vertical_lem made) ≡ value (float (pos 1600)))
+    (read_vertical_origin font 5 [] (some (pos 10)) (with_vertical (vorg 0 0 74)) ≡ value (float (pos 20)))
+    × (read_vertical_origin font 6 [] none (with_vertical (vorg 2 60 74)) ≡ value (float (pos 1760)))
+    × (read_vertical_origin font 5 [] none (with_vertical (vorg 2 60 0)) ≡ refused 1)
+    × (read_vertical_origin (take 80 font) 5 [] none (with_vertical (vorg 2 60 74)) ≡ refused 2)
+    × (read_vertical_origin [] 5 [] (some (pos 10)) (with_vertical made) ≡ value (float (pos 1600)))
 unfolding reading
 read_vorg_origins = (refl, refl, refl, refl, refl)
 
@@ -146,11 +146,11 @@ s1_bearings = with_byte 19 47 s1_font ++ 0 ∷ 0 ∷ 0 ∷ 2 ∷ 0 ∷ 1 ∷ 9 �
 
 -- Coordinates and glyph are handed on: (500 + 50)·2, (-10 + 50)·2, and the origin (10 + 80)·2.
 pub read_at_coordinates :
-    (read_level s1_bearings advance 0 half (with_vertical_lem made) ≡ value (float (pos 1100)))
-    × (read_level s1_bearings bearing 0 half (with_vertical_lem made) ≡ value (float (pos 80)))
-    × (read_upright s1_bearings advance 0 half (with_vertical_lem (glyf 2 60)) ≡ value (float (pos 1100)))
-    × (read_upright s1_bearings bearing 0 half (with_vertical_lem (vorg 2 60 0)) ≡ value (float (pos 80)))
-    × (read_vertical_origin s1_bearings 0 half (some (pos 10)) (with_vertical_lem (glyf 2 60)) ≡ value (float (pos 180)))
+    (read_level s1_bearings advance 0 half (with_vertical made) ≡ value (float (pos 1100)))
+    × (read_level s1_bearings bearing 0 half (with_vertical made) ≡ value (float (pos 80)))
+    × (read_upright s1_bearings advance 0 half (with_vertical (glyf 2 60)) ≡ value (float (pos 1100)))
+    × (read_upright s1_bearings bearing 0 half (with_vertical (vorg 2 60 0)) ≡ value (float (pos 80)))
+    × (read_vertical_origin s1_bearings 0 half (some (pos 10)) (with_vertical (glyf 2 60)) ≡ value (float (pos 180)))
 unfolding reading
 read_at_coordinates = (refl, refl, refl, refl, refl)
 

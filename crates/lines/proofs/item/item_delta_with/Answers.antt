@@ -77,7 +77,7 @@ pub overflow_add-row-4 : goal.overflow_add-row-4
 overflow_add-row-4 c = omega (arith, row_small c.args.inner c.half_in-count.result c.half_in-word_count.result (omega arith) (omega arith) (omega arith))
 
 pub cut_row-requires : goal.cut_row-requires
-cut_row-requires c = record { region_count_in_bounds = omega arith; indexes_bound = (omega arith, omega (arith, row_small c.args.inner c.half_in-count.result c.half_in-word_count.result (omega arith) (omega arith) (omega arith))) }
+cut_row-requires c = record { region_count_in_bounds = omega arith; indexes_and_row_bound = (omega arith, omega (arith, row_small c.args.inner c.half_in-count.result c.half_in-word_count.result (omega arith) (omega arith) (omega arith))) }
 
 pub returns-then-font-row : goal.returns-then-font-row
 returns-then-font-row c =

@@ -41,7 +41,7 @@ returns-then-scalar c =
 pub entry_in-requires : goal.entry_in-requires
 entry_in-requires c =
     let a = c.args in
-    omega (arith, entry_before a.font.now a.word_count a.row c.loop-k.k a.count c.loop-k-test.true c.requires.word_count_le_count.0)
+    omega (arith, entry_before a.font.now a.word_count a.row c.loop-k.k a.count c.loop-k-test.true c.requires.row_in_bounds.0)
 
 pub loop-k-preserved : goal.loop-k-preserved
 loop-k-preserved c =

@@ -1,4 +1,4 @@
--- What "no second answer" says. No contract cites this file: the theorems on public functions do, in every crate; their names end in `_one`. (Those of the opened MVAR are stated in full, `docs/DECISIONS.md` 49.) Assumes nothing.
+-- What "no second answer" says. No contract cites this file: the theorems on public functions do, in every crate; their names end in `_one`. (Those of the opened MVAR are stated in full, `docs/DECISIONS.md` 49; that of `lister::run` too, which may fail, 85.) Assumes nothing.
 use Rattle.std.specs.Prelude.{◌≡◌}
 
 infixr 5 ◌and◌

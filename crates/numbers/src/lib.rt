@@ -1,5 +1,4 @@
 // The 16.16 and 2.14 numbers (swash's fixed.rs).
-// A number is passed whole: what computes with it goes through its methods, of which `to_bits`, `from_f2dot14`, `to_f32` and `lt` open it.
 #![tactic(auto)]
 
 ghost use Rattle.std.specs.Prelude.{◌≡◌, ◌+◌, ◌-◌, ◌*◌, ◌/◌, ◌^◌, ◌<◌, ◌≤◌, min, if◌then◌else◌, int_lt, nat_lt, unsigned_abs};
@@ -9,34 +8,106 @@ ghost use Rattle.std.proofs.Common.{to_z};
 ghost use Rattle.numbers.specs.Numbers.{mod_z, wrap32, plus_multiple, plus, minus, negated, lesser, greater, from_integer, from_f2dot14, to_f2dot14, is_neg, with_sign, times, quotient, over, times_over};
 ghost use Rattle.numbers.specs.Floats.{of_float, to_float, whole_bits};
 
+use std::ops::{Add, Div, Mul, Neg, Sub};
+
 // 16.16
-#[derive(Clone, Copy)]
+#[derive(Clone, Copy, PartialEq, Eq, PartialOrd, Ord)]
 pub struct Fixed(pub i32);
 
 // 2.14
-#[derive(Clone, Copy)]
+#[derive(Clone, Copy, PartialEq, Eq, PartialOrd, Ord)]
 pub struct F2Dot14(pub i16);
 
 impl F2Dot14 {
+    pub const ZERO: F2Dot14 = F2Dot14(0);
+
     // The number whose bits, in two's complement, are n.
     pub fn from_bits(n: u16) -> F2Dot14
         ensures { result.0 ≡ to_z w16 n }
     {
-        F2Dot14(as_i16(n))
+        F2Dot14(n.cast_signed())
     }
 
     pub fn to_bits(self) -> u16
         ensures { result ≡ mod_z self.0 0x1_0000 }
     {
-        let n = Fixed::from_f2dot14(self).to_bits();
-        (n / 4 % 0x1_0000) as u16
+        self.0.cast_unsigned()
     }
+}
 
-    // Whether self is below rhs.
-    pub fn lt(self, rhs: F2Dot14) -> bool
-        ensures { result ≡ int_lt self.0 rhs.0 }
-    {
-        self.0 < rhs.0
+impl From<F2Dot14> for Fixed {
+    ghost from_gives = { λ x r. r.0 ≡ from_f2dot14 x.0 };
+
+    fn from(x: F2Dot14) -> Fixed {
+        Fixed((x.0 as i32) * 4)
+    }
+}
+
+impl From<f32> for Fixed {
+    ghost from_gives = { λ x r. r.0 ≡ of_float x };
+
+    fn from(x: f32) -> Fixed {
+        cut(x * 65536.0 + 0.5)
+    }
+}
+
+impl From<Fixed> for f32 {
+    ghost from_gives = { λ x r. r ≡ to_float x.0 };
+
+    fn from(x: Fixed) -> f32 {
+        std::num::nearest_i32_to_f32(x.0) / 65536.0
+    }
+}
+
+impl Add for Fixed {
+    type Output = Fixed;
+
+    ghost add_gives = { λ a b r. r.0 ≡ plus a.0 b.0 };
+
+    fn add(self, rhs: Fixed) -> Fixed {
+        Fixed::from_bits(self.to_bits().wrapping_add(rhs.to_bits()))
+    }
+}
+
+impl Sub for Fixed {
+    type Output = Fixed;
+
+    ghost sub_gives = { λ a b r. r.0 ≡ minus a.0 b.0 };
+
+    fn sub(self, rhs: Fixed) -> Fixed {
+        Fixed::from_bits(self.to_bits().wrapping_sub(rhs.to_bits()))
+    }
+}
+
+impl Neg for Fixed {
+    type Output = Fixed;
+
+    ghost neg_gives = { λ a r. r.0 ≡ negated a.0 };
+
+    fn neg(self) -> Fixed {
+        Fixed::from_bits(self.to_bits().wrapping_neg())
+    }
+}
+
+impl Mul for Fixed {
+    type Output = Fixed;
+
+    ghost mul_gives = { λ a b r. r.0 ≡ times a.0 b.0 };
+
+    fn mul(self, rhs: Fixed) -> Fixed {
+        let q = (self.magnitude() * rhs.magnitude() + 0x8000) / 0x1_0000;
+        Fixed::with_sign(self.negative() != rhs.negative(), q)
+    }
+}
+
+impl Div for Fixed {
+    type Output = Fixed;
+
+    ghost div_gives = { λ a b r. r.0 ≡ over a.0 b.0 };
+
+    fn div(self, rhs: Fixed) -> Fixed {
+        let q = nearest_quotient(self.magnitude() * 0x1_0000, rhs.magnitude());
+        Fixed::with_sign(self.negative() != rhs.negative(), q)
     }
 }
 
@@ -53,30 +124,20 @@ impl Fixed {
     pub fn from_bits(n: u32) -> Fixed
         ensures { result.0 ≡ to_z w32 n }
     {
-        if n < 0x8000_0000 {
-            Fixed(n as i32)
-        } else {
-            Fixed(!((!n) as i32))
-        }
+        Fixed(n.cast_signed())
     }
 
     pub fn to_bits(self) -> u32
         ensures { result ≡ mod_z self.0 0x1_0000_0000 }
     {
-        bits_of(self.0)
+        self.0.cast_unsigned()
     }
 
     // x as 16.16, modulo 2^32.
     pub fn from_i32(x: i32) -> Fixed
         ensures { result.0 ≡ from_integer x }
     {
-        Fixed::from_bits(bits_of(x) % 0x1_0000 * 0x1_0000)
-    }
-
-    pub fn from_f2dot14(x: F2Dot14) -> Fixed
-        ensures { result.0 ≡ from_f2dot14 x.0 }
-    {
-        Fixed((x.0 as i32) * 4)
+        Fixed::from_bits(x.cast_unsigned().wrapping_mul(0x1_0000))
     }
 
     pub fn to_f2dot14(self) -> F2Dot14
@@ -86,59 +147,18 @@ impl Fixed {
         F2Dot14::from_bits(((n + 2) / 4 % 0x1_0000) as u16)
     }
 
-    pub fn add(self, rhs: Fixed) -> Fixed
-        ensures { result.0 ≡ plus self.0 rhs.0 }
-    {
-        Fixed::from_bits(std::num::wrapping_add_u32(self.to_bits(), rhs.to_bits()))
-    }
-
-    pub fn sub(self, rhs: Fixed) -> Fixed
-        ensures { result.0 ≡ minus self.0 rhs.0 }
-    {
-        Fixed::from_bits(std::num::wrapping_sub_u32(self.to_bits(), rhs.to_bits()))
-    }
-
-    pub fn neg(self) -> Fixed
-        ensures { result.0 ≡ negated self.0 }
-    {
-        Fixed::from_bits(std::num::wrapping_sub_u32(0, self.to_bits()))
-    }
-
-    // Whether self is below rhs.
-    pub fn lt(self, rhs: Fixed) -> bool
-        ensures { result ≡ int_lt self.0 rhs.0 }
-    {
-        self.0 < rhs.0
-    }
-
-    pub fn min(self, rhs: Fixed) -> Fixed
-        ensures { result.0 ≡ lesser self.0 rhs.0 }
-    {
-        if rhs.lt(self) { rhs } else { self }
-    }
-
-    pub fn max(self, rhs: Fixed) -> Fixed
-        ensures { result.0 ≡ greater self.0 rhs.0 }
-    {
-        if rhs.lt(self) { self } else { rhs }
-    }
-
     fn negative(self) -> bool
         ensures { result ≡ is_neg self.0 }
     {
-        self.to_bits() >= 0x8000_0000
+        self.0.is_negative()
     }
 
     // The absolute value; that of MIN too.
     fn magnitude(self) -> u64
-        ensures { (result ≡ unsigned_abs self.0) × (result ≤ 2 ^ 31) }
+        ensures value { result ≡ unsigned_abs self.0 }
+        ensures bound { result ≤ 2 ^ 31 }
     {
-        let n = self.to_bits() as u64;
-        if n < 0x8000_0000 {
-            n
-        } else {
-            0x1_0000_0000 - n
-        }
+        self.0.unsigned_abs() as u64
     }
 
     // q with a sign, modulo 2^32.
@@ -147,24 +167,10 @@ impl Fixed {
     {
         let n = (q % 0x1_0000_0000) as u32;
         if minus {
-            Fixed::from_bits(std::num::wrapping_sub_u32(0, n))
+            Fixed::from_bits(n.wrapping_neg())
         } else {
             Fixed::from_bits(n)
         }
-    }
-
-    pub fn mul(self, rhs: Fixed) -> Fixed
-        ensures { result.0 ≡ times self.0 rhs.0 }
-    {
-        let q = (self.magnitude() * rhs.magnitude() + 0x8000) / 0x1_0000;
-        Fixed::with_sign(self.negative() != rhs.negative(), q)
-    }
-
-    pub fn div(self, rhs: Fixed) -> Fixed
-        ensures { result.0 ≡ over self.0 rhs.0 }
-    {
-        let q = nearest_quotient(self.magnitude() * 0x1_0000, rhs.magnitude());
-        Fixed::with_sign(self.negative() != rhs.negative(), q)
     }
 
     // self multiplied by a part, then divided by the whole: what `mul` and `div` make of them. Of a scalar, a part and a whole in 0..1, as in every region of coordinates
@@ -175,51 +181,23 @@ impl Fixed {
         let n = self.to_bits();
         let p = part.to_bits();
         let w = whole.to_bits();
-        if n <= 0x1_0000 {
-            if w <= 0x1_0000 {
-                if p < w {
-                    let m = (n * p + 0x8000) / 0x1_0000;
-                    let q = nearest_quotient((m * 0x1_0000) as u64, w as u64);
-                    return Fixed::from_bits(q as u32);
-                }
-            }
+        if n <= 0x1_0000 && w <= 0x1_0000 && p < w {
+            let m = (n * p + 0x8000) / 0x1_0000;
+            let q = nearest_quotient((m * 0x1_0000) as u64, w as u64);
+            return Fixed::from_bits(q as u32);
         }
-        self.mul(part).div(whole)
+        self * part / whole
     }
 
     // self plus a 16.16 number times a whole number, modulo 2^32: nothing is rounded.
     pub fn add_product(self, x: Fixed, n: i16) -> Fixed
         ensures { result.0 ≡ plus_multiple self.0 x.0 n }
     {
-        let product = (x.to_bits() as u64) * (bits_of(n as i32) as u64);
-        Fixed::from_bits(((product + (self.to_bits() as u64)) % 0x1_0000_0000) as u32)
+        Fixed::from_bits(
+            self.to_bits()
+                .wrapping_add(x.to_bits().wrapping_mul((n as i32).cast_unsigned())),
+        )
     }
-
-    pub fn from_f32(x: f32) -> Fixed
-        ensures { result.0 ≡ of_float x }
-    {
-        cut(x * 65536.0 + 0.5)
-    }
-
-    pub fn to_f32(self) -> f32
-        ensures { result ≡ to_float self.0 }
-    {
-        std::num::nearest_i32_to_f32(self.0) / 65536.0
-    }
-}
-
-// The 32 bits of x in two's complement.
-fn bits_of(x: i32) -> u32
-    ensures { result ≡ mod_z x 0x1_0000_0000 }
-{
-    if x >= 0 { x as u32 } else { !((!x) as u32) }
-}
-
-// The number whose bits, in two's complement, are n: Rust's cast.
-pub fn as_i16(n: u16) -> i16
-    ensures { result ≡ to_z w16 n }
-{
-    if n < 0x8000 { n as i16 } else { !((!n) as i16) }
 }
 
 // a·b over c.
@@ -291,10 +269,8 @@ fn long_quotient(n: u64, d: u64, shift: u32) -> u64
     if shift / 2 % 2 == 1 {
         word = next_bit(next_bit(word, take), take);
     }
-    let mut turns = shift / 4;
-    while turns > 0 {
+    for _ in 0..shift / 4 {
         word = next_bit(next_bit(next_bit(next_bit(word, take), take), take), take);
-        turns -= 1;
     }
     (word & (unit - 1)) + first
 }
@@ -306,7 +282,7 @@ fn next_bit(word: u64, take: u64) -> u64
     ensures { (result ≡ (if nat_lt (word + word) take then word + word else word + word - take)) × (result ≤ take) }
 {
     let twice = word + word;
-    let lower = std::num::wrapping_sub_u64(twice, take);
+    let lower = twice.wrapping_sub(take);
     if lower < 0x8000_0000_0000_0000 {
         return lower;
     }

@@ -7,10 +7,10 @@ use Rattle.numbers.proofs.long_quotient.Lts as lts
 use Rattle.numbers.proofs.long_quotient.Tie as tie
 use Rattle.numbers.proofs.long_quotient.Reads as reads
 use Rattle.numbers.proofs.long_quotient.Goals as goal
-use Rattle.numbers.proofs.long_quotient.Goals.{then-n-shifted, else-n-shifted, then-shift-eq1, else-shift-eq1, then-shift-eq1-2, else-shift-eq1-2}
+use Rattle.numbers.proofs.long_quotient.Goals.{Joined-shift-eq1-2, then-n-shifted, else-n-shifted, then-shift-eq1, else-shift-eq1, then-shift-eq1-2, else-shift-eq1-2}
 
 abbrev Joined-shift-eq1 : Type 0
-Joined-shift-eq1 = lts.Joined2 tie.the-claims reads.Pre reads.Post goal.the-invariant-loop-turns goal.the-decreases-loop-turns tie.handed_clauses
+Joined-shift-eq1 = lts.Joined2 tie.the-claims reads.Pre reads.Post goal.the-invariant-loop goal.the-decreases-loop tie.handed_clauses
 
 sizes : (a : goal.Start) → Shifted a.args.d a.args.shift
 sizes a = shifted a.args.d a.args.shift a.requires.d_nonzero a.requires.shift_bound
@@ -49,7 +49,7 @@ evened c k q =
       | else-shift-eq1 w ↦ rw w.word-is (stay (omega (arith, even c.args.shift w.if-shift-eq1.false)) g)
     ]
 
-halved : (c : goal.Joined-shift-eq1-2) (k : ℕ) → k ≡ 4 * (c.args.shift / 4) → On c.before.before.before c.if-n-shifted.first k c.if-shift-eq1-2.word
+halved : (c : Joined-shift-eq1-2) (k : ℕ) → k ≡ 4 * (c.args.shift / 4) → On c.before.before.before c.if-n-shifted.first k c.if-shift-eq1-2.word
 halved c k q =
     let shift = c.args.shift in
     let quarter = div-div-eq-div-mul shift 2 2 in
@@ -62,9 +62,9 @@ halved c k q =
 
 quotient_is : goal.returns
 quotient_is c =
-    let i = c.loop-turns in
+    let i = c.loop in
     let a = c.before.before.before.before.before.before.before in
-    rw (i.invariant.0, and_mask i.word a.args.shift) (arrived (omega (arith, c.loop-turns-test.false)) i.invariant.2)
+    rw (i.invariant.0, and_mask i.word a.args.shift) (arrived (omega (arith, c.loop-test.false)) i.invariant.2)
 
 pub overflow_shl-unit : goal.overflow_shl-unit
 overflow_shl-unit c = let h = sizes c in omega arith
@@ -84,32 +84,32 @@ next_bit-requires c = record { word_le_take = (evened c.before _ refl).below; ta
 pub next_bit-word-requires-then-shift-eq1-2 : goal.next_bit-word-requires-then-shift-eq1-2
 next_bit-word-requires-then-shift-eq1-2 c = record { word_le_take = c.next_bit.ensures.1; take_bound = take-fits c.before.before.before.before }
 
-pub loop-turns-init : goal.loop-turns-init
-loop-turns-init c =
+pub loop-init : goal.loop-init
+loop-init c =
     let a = c.before.before.before in
     let h = sizes a in
-    (omega (arith, a.requires.shift_bound), take-fits a, halved c _ refl)
+    (omega (arith, a.requires.shift_bound), take-fits a, halved c _ (omega arith))
 
-pub next_bit-requires-in-loop-turns : goal.next_bit-requires-in-loop-turns
-next_bit-requires-in-loop-turns c = record { word_le_take = c.loop-turns.invariant.2.below; take_bound = c.loop-turns.invariant.1 }
+pub next_bit-requires-in-loop : goal.next_bit-requires-in-loop
+next_bit-requires-in-loop c = record { word_le_take = c.loop.invariant.2.below; take_bound = c.loop.invariant.1 }
 
-pub next_bit-requires-in-loop-turns-2 : goal.next_bit-requires-in-loop-turns-2
-next_bit-requires-in-loop-turns-2 c = record { word_le_take = c.next_bit-in-loop-turns.ensures.1; take_bound = c.loop-turns.invariant.1 }
+pub next_bit-requires-in-loop-2 : goal.next_bit-requires-in-loop-2
+next_bit-requires-in-loop-2 c = record { word_le_take = c.next_bit-in-loop.ensures.1; take_bound = c.loop.invariant.1 }
 
-pub next_bit-requires-in-loop-turns-3 : goal.next_bit-requires-in-loop-turns-3
-next_bit-requires-in-loop-turns-3 c = record { word_le_take = c.next_bit-in-loop-turns-2.ensures.1; take_bound = c.loop-turns.invariant.1 }
+pub next_bit-requires-in-loop-3 : goal.next_bit-requires-in-loop-3
+next_bit-requires-in-loop-3 c = record { word_le_take = c.next_bit-in-loop-2.ensures.1; take_bound = c.loop.invariant.1 }
 
-pub next_bit-word-requires-in-loop-turns : goal.next_bit-word-requires-in-loop-turns
-next_bit-word-requires-in-loop-turns c = record { word_le_take = c.next_bit-in-loop-turns-3.ensures.1; take_bound = c.loop-turns.invariant.1 }
+pub next_bit-word-requires-in-loop : goal.next_bit-word-requires-in-loop
+next_bit-word-requires-in-loop c = record { word_le_take = c.next_bit-in-loop-3.ensures.1; take_bound = c.loop.invariant.1 }
 
-pub loop-turns-preserved : goal.loop-turns-preserved
-loop-turns-preserved c =
-    let i = c.loop-turns in
-    let k = 4 * (i.turns - 1) in
-    let one = step (suc (suc (suc k))) (omega (arith, c.loop-turns-test.true)) i.invariant.2 c.next_bit-in-loop-turns.ensures in
-    let two = step (suc (suc k)) refl one c.next_bit-in-loop-turns-2.ensures in
-    let three = step (suc k) refl two c.next_bit-in-loop-turns-3.ensures in
-    (i.invariant.0, i.invariant.1, step k refl three c.next_bit-word-in-loop-turns.ensures)
+pub loop-preserved : goal.loop-preserved
+loop-preserved c =
+    let i = c.loop in
+    let k = 4 * (c.args.shift / 4 - (i.counter + 1)) in
+    let one = step (suc (suc (suc k))) (omega arith) i.invariant.2 c.next_bit-in-loop.ensures in
+    let two = step (suc (suc k)) refl one c.next_bit-in-loop-2.ensures in
+    let three = step (suc k) refl two c.next_bit-in-loop-3.ensures in
+    (i.invariant.0, i.invariant.1, step k refl three c.next_bit-word-in-loop.ensures)
 
 pub overflow_sub-result : goal.overflow_sub-result
 overflow_sub-result c = let h = sizes c.before.before.before.before.before in omega arith

@@ -5,13 +5,13 @@ use Rattle.numbers.proofs.Signs.{product_le}
 use Rattle.numbers.proofs.muldiv.Goals as goal
 
 product : (c : goal.After-magnitude-2) → c.magnitude.result * c.magnitude-2.result ≤ 2 ^ 62
-product c = product_le c.magnitude.result c.magnitude-2.result c.magnitude.ensures.1 c.magnitude-2.ensures.1
+product c = product_le c.magnitude.result c.magnitude-2.result c.magnitude.ensures.bound c.magnitude-2.ensures.bound
 
 pub overflow_mul-magnitude : goal.overflow_mul-magnitude
 overflow_mul-magnitude c = omega (arith, product c)
 
 pub nearest_quotient-q-requires : goal.nearest_quotient-q-requires
-nearest_quotient-q-requires c = record { n_bound = product c.before; d_bound = c.magnitude-3.ensures.1 }
+nearest_quotient-q-requires c = record { n_bound = product c.before; d_bound = c.magnitude-3.ensures.bound }
 
 pub returns : goal.returns
 unfolding times_over
@@ -20,9 +20,9 @@ returns c =
     let q = n.before in
     rw (
       q.nearest_quotient-q.ensures,
-      q.magnitude.ensures.0,
-      q.magnitude-2.ensures.0,
-      q.magnitude-3.ensures.0,
+      q.magnitude.ensures.value,
+      q.magnitude-2.ensures.value,
+      q.magnitude-3.ensures.value,
       n.negative.ensures,
       c.negative-2.ensures,
       c.negative-3.ensures,

@@ -9,8 +9,8 @@ pub returns-then-minus : goal.returns-then-minus
 returns-then-minus c =
     let s = c.args in
     c.from_bits.ensures
-    ∙ of_wrap c.wrapping_sub_u32.result (with_sign s.minus s.q)
-    (sign_mod_minus s.minus s.q (s.q % 0x1_0000_0000) c.wrapping_sub_u32.result c.if-minus.true refl (omega arith) c.wrapping_sub_u32.ensures.value)
+    ∙ of_wrap c.wrapping_neg.result (with_sign s.minus s.q)
+    (sign_mod_minus s.minus s.q (s.q % 0x1_0000_0000) c.wrapping_neg.result c.if-minus.true refl (omega arith) (omega arith))
 
 pub returns-else-minus : goal.returns-else-minus
 returns-else-minus c =

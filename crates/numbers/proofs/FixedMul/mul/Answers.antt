@@ -1,11 +1,11 @@
--- `numbers::Fixed::mul` meets its contract. Assumes nothing.
+-- `numbers::FixedMul::mul` meets its contract. Assumes nothing.
 use Rattle.std.proofs.Common.{◌*◌, ◌^◌, ◌≤◌, sym, ap, ◌∙◌, arith}
 use Rattle.numbers.specs.Numbers.{times, wrap32}
 use Rattle.numbers.proofs.Signs.{product_le, round_product}
-use Rattle.numbers.proofs.Fixed.mul.Goals as goal
+use Rattle.numbers.proofs.FixedMul.mul.Goals as goal
 
 product : (c : goal.After-magnitude-2) → c.magnitude.result * c.magnitude-2.result ≤ 2 ^ 62
-product c = product_le c.magnitude.result c.magnitude-2.result c.magnitude.ensures.1 c.magnitude-2.ensures.1
+product c = product_le c.magnitude.result c.magnitude-2.result c.magnitude.ensures.bound c.magnitude-2.ensures.bound
 
 pub overflow_mul-q : goal.overflow_mul-q
 overflow_mul-q c = omega (arith, product c)
@@ -19,8 +19,8 @@ returns c =
     let n = c.before.before in
     let s = n.args in
     rw (
-      n.magnitude.ensures.0,
-      n.magnitude-2.ensures.0,
+      n.magnitude.ensures.value,
+      n.magnitude-2.ensures.value,
       n.negative.ensures,
       c.negative-2.ensures,
     ) at c.with_sign.ensures

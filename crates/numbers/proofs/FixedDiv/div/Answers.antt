@@ -1,6 +1,6 @@
--- `numbers::Fixed::div` meets its contract. Assumes nothing.
+-- `numbers::FixedDiv::div` meets its contract. Assumes nothing.
 use Rattle.numbers.specs.Numbers.{over}
-use Rattle.numbers.proofs.Fixed.div.Goals as goal
+use Rattle.numbers.proofs.FixedDiv.div.Goals as goal
 
 pub returns : goal.returns
 unfolding over
@@ -9,8 +9,8 @@ returns c =
     let q = n.before in
     rw (
       q.nearest_quotient-q.ensures,
-      q.magnitude.ensures.0,
-      q.magnitude-2.ensures.0,
+      q.magnitude.ensures.value,
+      q.magnitude-2.ensures.value,
       n.negative.ensures,
       c.negative-2.ensures,
     ) at c.with_sign.ensures

@@ -4,6 +4,6 @@ pub mod Bytes
 pub mod Reading
 pub mod Walk
 pub mod Lent
-pub mod One
 pub mod Passed
 pub mod TwoFonts
+pub mod One

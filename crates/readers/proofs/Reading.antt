@@ -1,32 +1,18 @@
 -- Laws of readings. Assumes nothing.
 -- The rules over `run font (..)` go from a definition's outcome back to what the calls ensure and the case that each answer was: `search` follows a chain
--- of reads by them with no path written, as in `search (unsigned, ends) depth 8` under `unfolding` of the definition.
+-- of reads by them with no path written, as in `search (reads, ends) depth 8` under `unfolding` of the definition.
 use Prim.Native.Nat.{ℕ, ◌+◌}
 use mathlib.Core.Path.{◌≡◌, refl, sym}
 use mathlib.Core.List.{List}
 use mathlib.Core.Bool.{Bool, true, false, cond}
 use lib.ListN.{length}
 use lib.Dec.{leb}
-use lib.IntN.{ℤ}
+use Rattle.std.specs.Prelude.{Result, Ok, Err}
 use borrow.Author.Tests.{le-leb, lt-leb, lt-ltb, le-ltb, eq-eqb, ne_eqb}
-use Rattle.numbers.specs.declared.Fixed.{Fixed}
-use Rattle.numbers.specs.declared.F2Dot14.{F2Dot14}
 use Rattle.readers.specs.Outcome.{Outcome, value, refused, onward}
 use Rattle.readers.specs.Reading.{Reading, answer, refuse, tested, bytes_at, ◌>>=◌, big_endian, run}
-use Rattle.readers.specs.Answers.{refusal, outcome8, outcome16, outcome32, outcome_i16, outcome_f2_dot14, outcome_fixed}
+use Rattle.readers.specs.Answers.{refusal, outcome_as, outcome}
 use Rattle.readers.specs.declared.Refusal.{Refusal}
-use Rattle.readers.specs.declared.Byte.{Byte}
-use Rattle.readers.specs.declared.Byte.TheVariants as B
-use Rattle.readers.specs.declared.Half.{Half}
-use Rattle.readers.specs.declared.Half.TheVariants as H
-use Rattle.readers.specs.declared.Word.{Word}
-use Rattle.readers.specs.declared.Word.TheVariants as W
-use Rattle.readers.specs.declared.Signed.{Signed}
-use Rattle.readers.specs.declared.Signed.TheVariants as S
-use Rattle.readers.specs.declared.F2Dot14Answer.{F2Dot14Answer}
-use Rattle.readers.specs.declared.F2Dot14Answer.TheVariants as D
-use Rattle.readers.specs.declared.FixedAnswer.{FixedAnswer}
-use Rattle.readers.specs.declared.FixedAnswer.TheVariants as F
 use Rattle.readers.proofs.Outcome.{onward_by, halt_by, unless_onward}
 
 -- One reading and then another.
@@ -53,44 +39,21 @@ module _ {R A C : Type 0} (o : R → Outcome A) (font : List ℕ) (d : Reading A
   pub stop_by : {r v : R} {n : ℕ} → o r ≡ run font d → r ≡ v → o v ≡ refused n → refused n ≡ run font (d >>= f)
   stop_by p q e = rw (run_bind font d f) (halt_by o (run font d) (λ a. run font (f a)) p q e)
 
--- The same for each answer type: with the map left open, `search` doesn't find it.
-module _ {C : Type 0} (font : List ℕ) (d : Reading ℕ) (f : ℕ → Reading C) where
-  pub took8 : (w : Outcome C) {r : Byte} {x : ℕ} → outcome8 r ≡ run font d → r ≡ B.Value x → w ≡ run font (f x) → w ≡ run font (d >>= f)
-  took8 w p q g = took_by outcome8 font d f w p q refl g
+-- The same of the code's answers, whose values are read as `seen` has them.
+module _ {R A C : Type 0} (seen : R → A) (font : List ℕ) (d : Reading A) (f : A → Reading C) where
+  pub took_as : (w : Outcome C) {r : Result R Refusal} {x : R} → outcome_as seen r ≡ run font d → r ≡ Ok x → w ≡ run font (f (seen x)) → w ≡ run font (d >>= f)
+  took_as w p q g = took_by (outcome_as seen) font d f w p q refl g
 
-  pub stop8 : {r : Byte} {n : Refusal} → outcome8 r ≡ run font d → r ≡ B.Refused n → refusal n ≡ run font (d >>= f)
-  stop8 p q = stop_by outcome8 font d f p q refl
+  pub stop_as : {r : Result R Refusal} {n : Refusal} → outcome_as seen r ≡ run font d → r ≡ Err n → refusal n ≡ run font (d >>= f)
+  stop_as p q = stop_by (outcome_as seen) font d f p q refl
 
-  pub took16 : (w : Outcome C) {r : Half} {x : ℕ} → outcome16 r ≡ run font d → r ≡ H.Value x → w ≡ run font (f x) → w ≡ run font (d >>= f)
-  took16 w p q g = took_by outcome16 font d f w p q refl g
+-- With the map left open `search` doesn't find them.
+module _ {A C : Type 0} (font : List ℕ) (d : Reading A) (f : A → Reading C) where
+  pub took : (w : Outcome C) {r : Result A Refusal} {x : A} → outcome r ≡ run font d → r ≡ Ok x → w ≡ run font (f x) → w ≡ run font (d >>= f)
+  took w p q g = took_as (λ x. x) font d f w p q g
 
-  pub stop16 : {r : Half} {n : Refusal} → outcome16 r ≡ run font d → r ≡ H.Refused n → refusal n ≡ run font (d >>= f)
-  stop16 p q = stop_by outcome16 font d f p q refl
-
-  pub took32 : (w : Outcome C) {r : Word} {x : ℕ} → outcome32 r ≡ run font d → r ≡ W.Value x → w ≡ run font (f x) → w ≡ run font (d >>= f)
-  took32 w p q g = took_by outcome32 font d f w p q refl g
-
-  pub stop32 : {r : Word} {n : Refusal} → outcome32 r ≡ run font d → r ≡ W.Refused n → refusal n ≡ run font (d >>= f)
-  stop32 p q = stop_by outcome32 font d f p q refl
-
-module _ {C : Type 0} (font : List ℕ) (d : Reading ℤ) (f : ℤ → Reading C) where
-  pub took_i16 : (w : Outcome C) {r : Signed} {x : ℤ} → outcome_i16 r ≡ run font d → r ≡ S.Value x → w ≡ run font (f x) → w ≡ run font (d >>= f)
-  took_i16 w p q g = took_by outcome_i16 font d f w p q refl g
-
-  pub stop_i16 : {r : Signed} {n : Refusal} → outcome_i16 r ≡ run font d → r ≡ S.Refused n → refusal n ≡ run font (d >>= f)
-  stop_i16 p q = stop_by outcome_i16 font d f p q refl
-
-  pub took_f2_dot14 : (w : Outcome C) {r : F2Dot14Answer} {x : F2Dot14} → outcome_f2_dot14 r ≡ run font d → r ≡ D.Value x → w ≡ run font (f x.0) → w ≡ run font (d >>= f)
-  took_f2_dot14 w p q g = took_by outcome_f2_dot14 font d f w p q refl g
-
-  pub stop_f2_dot14 : {r : F2Dot14Answer} {n : Refusal} → outcome_f2_dot14 r ≡ run font d → r ≡ D.Refused n → refusal n ≡ run font (d >>= f)
-  stop_f2_dot14 p q = stop_by outcome_f2_dot14 font d f p q refl
-
-  pub took_fixed : (w : Outcome C) {r : FixedAnswer} {x : Fixed} → outcome_fixed r ≡ run font d → r ≡ F.Value x → w ≡ run font (f x.0) → w ≡ run font (d >>= f)
-  took_fixed w p q g = took_by outcome_fixed font d f w p q refl g
-
-  pub stop_fixed : {r : FixedAnswer} {n : Refusal} → outcome_fixed r ≡ run font d → r ≡ F.Refused n → refusal n ≡ run font (d >>= f)
-  stop_fixed p q = stop_by outcome_fixed font d f p q refl
+  pub stop : {r : Result A Refusal} {n : Refusal} → outcome r ≡ run font d → r ≡ Err n → refusal n ≡ run font (d >>= f)
+  stop p q = stop_as (λ x. x) font d f p q
 
 module _ {C : Type 0} (font : List ℕ) where
   pub answered : (a : C) → value a ≡ run font (answer a)
@@ -118,11 +81,7 @@ module _ {C : Type 0} (font : List ℕ) where
   otherwise t d e w p g = rw p g
 
 -- Lists for `search`, none with a rule of another: each rule that is listed is tried at each step, so list what the function reads and no more.
-pub ruleset bytes = (took8, stop8)
-
-pub ruleset unsigned = (took16, stop16, took32, stop32)
-
-pub ruleset numbers = (took_f2_dot14, stop_f2_dot14, took_fixed, stop_fixed)
+pub ruleset reads = (took, stop)
 
 pub ruleset ends = (answered, declined)
 

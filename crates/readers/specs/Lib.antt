@@ -4,3 +4,4 @@ pub mod Reading
 pub mod Walk
 pub mod Lent
 pub mod Answers
+pub mod Numbers

@@ -33,6 +33,10 @@ check t n = tested t n (answer done)
 abbrev pub there : ℕ → ℕ → Reading Done
 there n p = bytes_at n p (λ x. answer done)
 
+-- What f makes of the number of the n bytes at p.
+abbrev pub read_at : {A : Type 0} → ℕ → (ℕ → A) → ℕ → Reading A
+read_at n f p = bytes_at n p (λ x. answer (f x))
+
 -- The n bytes at p, unsigned.
 unfoldable pub unsigned_at : ℕ → ℕ → Reading ℕ
 unsigned_at n p = bytes_at n p answer

@@ -1,16 +1,19 @@
 -- Laws of readings. Assumes nothing.
 -- The rules over `run font (..)` go from a definition's outcome back to what the calls ensure and the case that each answer was: `search` follows a chain
 -- of reads by them with no path written, as in `search (reads, ends) depth 8` under `unfolding` of the definition.
-use Prim.Native.Nat.{ℕ, ◌+◌}
-use mathlib.Core.Path.{◌≡◌, refl, sym}
+use Prim.Native.Nat.{ℕ, ◌+◌, ◌/◌}
+use lib.IntN.{ℤ}
+use mir.Syntax.{Width}
+use mir.Val.{bits, to_z}
+use mathlib.Core.Path.{◌≡◌, refl, ap, sym, ◌∙◌}
 use mathlib.Core.List.{List}
 use mathlib.Core.Bool.{Bool, true, false, cond}
 use lib.ListN.{length}
 use lib.Dec.{leb}
-use Rattle.std.specs.Prelude.{Result, Ok, Err}
+use Rattle.std.specs.Prelude.{Result, Ok, Err, IsErr, IsErrAnd}
 use borrow.Author.Tests.{le-leb, lt-leb, lt-ltb, le-ltb, eq-eqb, ne_eqb}
 use Rattle.readers.specs.Outcome.{Outcome, value, refused, onward}
-use Rattle.readers.specs.Reading.{Reading, answer, refuse, tested, bytes_at, ◌>>=◌, big_endian, run}
+use Rattle.readers.specs.Reading.{Reading, answer, refuse, tested, bytes_at, ◌>>=◌, big_endian, read_at, unsigned_at, signed_at, run}
 use Rattle.readers.specs.Answers.{refusal, outcome_as, outcome}
 use Rattle.readers.specs.declared.Refusal.{Refusal}
 use Rattle.readers.proofs.Outcome.{onward_by, halt_by, unless_onward}
@@ -55,6 +58,39 @@ module _ {A C : Type 0} (font : List ℕ) (d : Reading A) (f : A → Reading C) 
   pub stop : {r : Result A Refusal} {n : Refusal} → outcome r ≡ run font d → r ≡ Err n → refusal n ≡ run font (d >>= f)
   stop p q = stop_as (λ x. x) font d f p q
 
+-- A refusal n that `?` hands on, in the caller's answer r, whose value is read as `seen` has it.
+pub handed_on : {R A : Type 0} (seen : R → A) (r : Result R Refusal) (n : Refusal) → IsErr r × IsErrAnd r (λ e. e ≡ n) → outcome_as seen r ≡ refusal n
+handed_on seen (Ok x) n h = absurd h.1
+handed_on seen (Err e) n h = ap refusal h.1
+
+-- A definition that goes on after a call that `?` takes apart: from what the call ensures of the value, or of the refusal.
+module _ {A C : Type 0} (font : List ℕ) (d : Reading A) (f : A → Reading C) where
+  pub went_on_call : (w : Outcome C) {x : A} → value x ≡ run font d → w ≡ run font (f x) → w ≡ run font (d >>= f)
+  went_on_call w t g = took_by (λ o. o) font d f w t refl refl g
+
+  pub stopped_call : {R : Type 0} (seen : R → C) (r : Result R Refusal) (n : Refusal) → IsErr r × IsErrAnd r (λ e. e ≡ n) → refusal n ≡ run font d → outcome_as seen r ≡ run font (d >>= f)
+  stopped_call seen r n h t = handed_on seen r n h ∙ stop_by (λ o. o) font d f t refl refl
+
+-- The same of a read of an unsigned number, ..
+module _ {C : Type 0} (font : List ℕ) (n p : ℕ) (f : ℕ → Reading C) where
+  pub went_on : (w : Outcome C) {x : ℕ} → value x ≡ run font (read_at n (λ x. x) p) → w ≡ run font (f x) → w ≡ run font (unsigned_at n p >>= f)
+  unfolding unsigned_at
+  went_on w t g = went_on_call font (read_at n (λ x. x) p) f w t g
+
+  pub stopped : {R : Type 0} (seen : R → C) (r : Result R Refusal) (k : Refusal) → IsErr r × IsErrAnd r (λ e. e ≡ k) → refusal k ≡ run font (read_at n (λ x. x) p) → outcome_as seen r ≡ run font (unsigned_at n p >>= f)
+  unfolding unsigned_at
+  stopped seen r k h t = stopped_call font (read_at n (λ x. x) p) f seen r k h t
+
+-- .. and of a signed one.
+module _ {C : Type 0} (font : List ℕ) (w : Width) (p : ℕ) (f : ℤ → Reading C) where
+  pub went_on_signed : (o : Outcome C) {x : ℤ} → value x ≡ run font (read_at (bits w / 8) (to_z w) p) → o ≡ run font (f x) → o ≡ run font (signed_at w p >>= f)
+  unfolding signed_at unsigned_at
+  went_on_signed o t g = went_on_call font (read_at (bits w / 8) (to_z w) p) f o t g
+
+  pub stopped_signed : {R : Type 0} (seen : R → C) (r : Result R Refusal) (k : Refusal) → IsErr r × IsErrAnd r (λ e. e ≡ k) → refusal k ≡ run font (read_at (bits w / 8) (to_z w) p) → outcome_as seen r ≡ run font (signed_at w p >>= f)
+  unfolding signed_at unsigned_at
+  stopped_signed seen r k h t = stopped_call font (read_at (bits w / 8) (to_z w) p) f seen r k h t
+
 module _ {C : Type 0} (font : List ℕ) where
   pub answered : (a : C) → value a ≡ run font (answer a)
   unfolding run
@@ -82,6 +118,10 @@ module _ {C : Type 0} (font : List ℕ) where
 
 -- Lists for `search`, none with a rule of another: each rule that is listed is tried at each step, so list what the function reads and no more.
 pub ruleset reads = (took, stop)
+
+pub ruleset exits = (went_on, stopped)
+
+pub ruleset call_exits = (went_on_call, stopped_call)
 
 pub ruleset ends = (answered, declined)
 

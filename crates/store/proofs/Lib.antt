@@ -7,12 +7,4 @@ pub mod OnlyFootprint
 pub mod Joined
 pub mod Entries
 pub mod Places
-pub mod Search
-pub mod Records
-pub mod Openings
-pub mod Opened
 pub mod Apart
-pub mod ItemOne
-pub mod MetricOne
-pub mod MvarOne
-pub mod OpenOne

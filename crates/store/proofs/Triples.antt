@@ -16,11 +16,13 @@ use Rattle.readers.specs.Outcome.{Outcome, value, refused}
 use Rattle.readers.specs.Reading.{Reading, answer, ◌>>=◌, unsigned_at, signed_at, big_endian, run}
 use Rattle.readers.proofs.Bytes.{present, missing, SameBytes}
 use Rattle.readers.proofs.Passed.{bytes_there, cut_later}
-use Rattle.readers.proofs.Reading.{took_by, stop_by}
+use Rattle.readers.proofs.Reading.{went_on_call, stopped_call}
 use Rattle.readers.proofs.TwoFonts.{read_same, answer_same}
 use Rattle.opentype.specs.Region.{Triple, triple_at, coordinate, skipped, Tent, tent_at, under, axis_turn}
-use Rattle.store.specs.RegionAnswers.{axis_outcome}
-use Rattle.store.specs.declared.region.AxisAnswer.{AxisAnswer}
+use Rattle.std.specs.Prelude.{Result, IsErr, IsErrAnd}
+use Rattle.numbers.specs.declared.Fixed.{Fixed}
+use Rattle.readers.specs.declared.Refusal.{Refusal}
+use Rattle.readers.specs.Answers.{refusal, outcome_fixed}
 
 -- ---- the bytes
 
@@ -76,15 +78,15 @@ module _ (f g : List ℕ) (p : ℕ) (len : length f ≡ length g) where
 -- ---- an axis of a region, by what `axis_at` answers
 
 module _ (coords : List ℤ) (p axis : ℕ) (scalar : ℤ) (onward : ℤ → Reading ℤ) where
-  -- c is the coordinate that the code found; r is what `axis_at` answered, and v the case that it was.
-  module _ (font : List ℕ) {c : ℤ} {r v : AxisAnswer} (found : c ≡ coordinate coords axis) (told : axis_outcome r ≡ run font (tent_at (p + 6 * axis) c scalar)) (was : r ≡ v) where
-    pub axis_took : (w : Outcome ℤ) (t : Tent) → axis_outcome v ≡ value t → w ≡ run font (under t onward) → w ≡ run font (axis_turn coords p axis scalar onward)
+  -- c is the coordinate that the code found.
+  module _ (font : List ℕ) {c : ℤ} (found : c ≡ coordinate coords axis) where
+    pub axis_took : (w : Outcome ℤ) (t : Tent) → value t ≡ run font (tent_at (p + 6 * axis) c scalar) → w ≡ run font (under t onward) → w ≡ run font (axis_turn coords p axis scalar onward)
     unfolding axis_turn
-    axis_took w t e g = rw (← found) (took_by axis_outcome font _ (λ t. under t onward) w told was e g)
+    axis_took w t told g = rw (← found) (went_on_call font _ (λ t. under t onward) w told g)
 
-    pub axis_stop : {n : ℕ} → axis_outcome v ≡ refused n → refused n ≡ run font (axis_turn coords p axis scalar onward)
+    pub axis_stop : (r : Result Fixed Refusal) (n : Refusal) → IsErr r × IsErrAnd r (λ e. e ≡ n) → refusal n ≡ run font (tent_at (p + 6 * axis) c scalar) → outcome_fixed r ≡ run font (axis_turn coords p axis scalar onward)
     unfolding axis_turn
-    axis_stop e = rw (← found) (stop_by axis_outcome font _ (λ t. under t onward) told was e)
+    axis_stop r n h told = rw (← found) (stopped_call font _ (λ t. under t onward) (λ x. x.0) r n h told)
 
 -- ---- the order
 

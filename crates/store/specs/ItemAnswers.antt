@@ -1,23 +1,18 @@
 -- What the structs and answers of `item` stand for: their offsets count from the store.
-use Rattle.std.specs.Prelude.{ℕ, ◌+◌, ◌*◌}
-use Rattle.readers.specs.Outcome.{Outcome, value}
-use Rattle.readers.specs.Answers.{refusal}
+use Rattle.std.specs.Prelude.{ℕ, ◌+◌, ◌*◌, Result}
+use Rattle.readers.specs.Outcome.{Outcome}
+use Rattle.readers.specs.Answers.{outcome_as}
+use Rattle.readers.specs.declared.Refusal.{Refusal}
 use Rattle.opentype.specs.Item.{Regions, Row, Item}
 use Rattle.store.specs.declared.item.RegionList.{RegionList}
-use Rattle.store.specs.declared.item.RegionListAnswer.{RegionListAnswer}
-use Rattle.store.specs.declared.item.RegionListAnswer.TheVariants as L
 use Rattle.store.specs.declared.item.ItemData.{ItemData}
-use Rattle.store.specs.declared.item.ItemDataAnswer.{ItemDataAnswer}
-use Rattle.store.specs.declared.item.ItemDataAnswer.TheVariants as I
-use Rattle.store.specs.declared.item.ItemAnswer.{ItemAnswer}
-use Rattle.store.specs.declared.item.ItemAnswer.TheVariants as A
+use Rattle.store.specs.declared.item.Item as Code
 
 abbrev pub regions_of : RegionList → Regions
 regions_of l = record { start = l.store + l.offset + 4; axis_count = l.axis_count; region_count = l.region_count }
 
-abbrev pub regions_outcome : RegionListAnswer → Outcome Regions
-regions_outcome (L.Value l) = value (regions_of l)
-regions_outcome (L.Refused n) = refusal n
+abbrev pub regions_outcome : Result RegionList Refusal → Outcome Regions
+regions_outcome r = outcome_as regions_of r
 
 abbrev pub row_of : ItemData → ℕ → Row
 row_of d inner = record {
@@ -27,13 +22,11 @@ row_of d inner = record {
   start = d.store + d.offset + 6 + 2 * d.region_index_count + inner * (d.region_index_count + d.word_count);
 }
 
-abbrev pub row_outcome : ℕ → ItemDataAnswer → Outcome Row
-row_outcome inner (I.Value d) = value (row_of d inner)
-row_outcome inner (I.Refused n) = refusal n
+abbrev pub row_outcome : ℕ → Result ItemData Refusal → Outcome Row
+row_outcome inner r = outcome_as (λ d. row_of d inner) r
 
-abbrev pub item_of : RegionList → ItemData → ℕ → Item
-item_of l d inner = record { regions = regions_of l; row = row_of d inner }
+abbrev pub item_of : Code.Item → ℕ → Item
+item_of i inner = record { regions = regions_of i.list; row = row_of i.«data» inner }
 
-abbrev pub item_outcome : ℕ → ItemAnswer → Outcome Item
-item_outcome inner (A.Value i) = value (item_of i.list i.«data» inner)
-item_outcome inner (A.Refused n) = refusal n
+abbrev pub item_outcome : ℕ → Result Code.Item Refusal → Outcome Item
+item_outcome inner r = outcome_as (λ i. item_of i inner) r

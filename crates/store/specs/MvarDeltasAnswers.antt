@@ -1,6 +1,5 @@
--- What the struct and the enum of `mvar_deltas` stand for, and steps on the way.
+-- What the struct and the enum of `mvar_deltas` stand for.
 use Rattle.std.specs.Prelude.{ℕ, Bool, true, false, Float}
-use Rattle.opentype.specs.MvarTags as T
 use Rattle.opentype.specs.MvarDeltas.{Deltas, deltas_by}
 use Rattle.store.specs.declared.mvar_deltas.MeasureDeltas.{MeasureDeltas}
 use Rattle.store.specs.declared.mvar_deltas.Wanted.{Wanted}
@@ -35,35 +34,4 @@ deltas_of d = record {
   vasc = d.vasc;
   vdsc = d.vdsc;
   vlgp = d.vlgp;
-}
-
--- Steps on the way: the deltas of the other measures beside those of ascender and descender, then the vertical ones.
-abbrev pub with_others : (ℕ → Float) → Deltas → Deltas
-with_others delta d = record {
-  hasc = d.hasc;
-  hdsc = d.hdsc;
-  hlgp = delta T.hlgp;
-  cpht = delta T.cpht;
-  xhgt = delta T.xhgt;
-  undo = delta T.undo;
-  stro = delta T.stro;
-  unds = delta T.unds;
-  vasc = d.vasc;
-  vdsc = d.vdsc;
-  vlgp = d.vlgp;
-}
-
-abbrev pub with_vertical : (ℕ → Float) → Deltas → Deltas
-with_vertical delta d = record {
-  hasc = d.hasc;
-  hdsc = d.hdsc;
-  hlgp = d.hlgp;
-  cpht = d.cpht;
-  xhgt = d.xhgt;
-  undo = d.undo;
-  stro = d.stro;
-  unds = d.unds;
-  vasc = delta T.vasc;
-  vdsc = delta T.vdsc;
-  vlgp = delta T.vlgp;
 }

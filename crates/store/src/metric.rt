@@ -1,12 +1,14 @@
 // The delta of a glyph's advance or bearing, from HVAR or VVAR.
 ghost use Rattle.std.specs.Prelude.{◌≡◌, ◌+◌, ◌-◌, ◌*◌, ◌^◌, ◌<◌, ◌≤◌, min};
 ghost use Rattle.readers.specs.Reading.{run, unsigned_at};
-ghost use Rattle.readers.specs.Answers.{outcome32, outcome_fixed};
+ghost use Rattle.readers.specs.Answers.{outcome, outcome_fixed};
+ghost use Rattle.opentype.specs.Item.{item_delta};
 ghost use Rattle.opentype.specs.Metric.{advance, bearing, map_field, map_entry, store_of, delta_set_index_at, metric_delta, float_of};
-ghost use Rattle.store.specs.MetricAnswers.{measure_of, delta_set_outcome, place_of, place_outcome, delta_from};
+ghost use Rattle.store.specs.MetricAnswers.{measure_of, delta_set_outcome, place_of, place_outcome};
 
 use crate::item::item_delta;
-use readers::{Byte, FixedAnswer, Half, Refusal, Word, u8_at, u16_at, u24_at, u32_at};
+use numbers::Fixed;
+use readers::{Refusal, U24, read};
 
 // Which of a glyph's measures: advance width or height; left or top bearing.
 #[derive(Clone, Copy)]
@@ -22,12 +24,6 @@ struct DeltaSetIndex {
     inner: u16,
 }
 
-#[derive(Clone, Copy)]
-enum DeltaSetAnswer {
-    Value(DeltaSetIndex),
-    Refused(Refusal),
-}
-
 // Where the delta of a measure is: a store, and the index of a delta set in it.
 #[derive(Clone, Copy)]
 pub struct Place {
@@ -36,90 +32,64 @@ pub struct Place {
     pub inner: u16,
 }
 
-#[derive(Clone, Copy)]
-pub enum PlaceAnswer {
-    Value(Place),
-    Refused(Refusal),
+impl Place {
+    // The delta there (DECISIONS 78).
+    fn delta(self, font: &[u8], coords: &[i16]) -> Result<Fixed, Refusal>
+        ensures { outcome_fixed result ≡ item_delta font.now self.store self.outer self.inner coords.now }
+    {
+        item_delta(font, self.store, self.outer, self.inner, coords)
+    }
 }
 
 // Where the store of a table at base is.
-pub fn store_of(font: &[u8], base: u32) -> Word
-    ensures { outcome32 result ≡ run font.now (store_of base) }
+pub fn store_of(font: &[u8], base: u32) -> Result<u32, Refusal>
+    ensures { outcome result ≡ run font.now (store_of base) }
 {
     if base == 0 {
-        return Word::Refused(Refusal::Absent);
+        return Err(Refusal::Absent);
     }
-    let offset = match u32_at(font, (base as usize) + 4) {
-        Word::Value(x) => x,
-        Word::Refused(n) => return Word::Refused(n),
-    };
+    let offset = read::<u32>(font, (base as usize) + 4)?;
     if offset == 0 {
-        return Word::Refused(Refusal::Absent);
+        return Err(Refusal::Absent);
     }
     let store = (offset as u64) + (base as u64);
     if store >= 0x1_0000_0000 {
-        return Word::Refused(Refusal::Arithmetic);
+        return Err(Refusal::Arithmetic);
     }
-    Word::Value(store as u32)
+    Ok(store as u32)
 }
 
 // Entry `index` of the entries at a position, each of `size` bytes.
-fn entry_at(font: &[u8], at: usize, size: u16, index: u16) -> Word
+fn entry_at(font: &[u8], at: usize, size: u16, index: u16) -> Result<u32, Refusal>
     requires at_bound { at < 2 ^ 40 }
     requires size_bound { (1 ≤ size) × (size ≤ 4) }
-    ensures { outcome32 result ≡ run font.now (unsigned_at size (at + size * index)) }
+    ensures { outcome result ≡ run font.now (unsigned_at size (at + size * index)) }
 {
     let p = at + (size as usize) * (index as usize);
     match size {
-        1 => match u8_at(font, p) {
-            Byte::Value(x) => Word::Value(x as u32),
-            Byte::Refused(n) => Word::Refused(n),
-        },
-        2 => match u16_at(font, p) {
-            Half::Value(x) => Word::Value(x as u32),
-            Half::Refused(n) => Word::Refused(n),
-        },
-        3 => u24_at(font, p),
-        4 => u32_at(font, p),
-        _ => Word::Refused(Refusal::Absent),
-    }
-}
-
-// A glyph past the last entry uses that.
-fn entry_index(glyph_id: u16, count: u16) -> u16
-    requires { 1 ≤ count }
-    ensures { result ≡ min glyph_id (count - 1) }
-{
-    if glyph_id < count {
-        glyph_id
-    } else {
-        count - 1
+        1 => Ok(read::<u8>(font, p)? as u32),
+        2 => Ok(read::<u16>(font, p)? as u32),
+        3 => Ok(read::<U24>(font, p)?.0),
+        4 => read(font, p),
+        _ => unreachable!(),
     }
 }
 
 // The entry of a glyph in the map at a position.
-fn map_entry(font: &[u8], at: usize, glyph_id: u16) -> DeltaSetAnswer
+fn map_entry(font: &[u8], at: usize, glyph_id: u16) -> Result<DeltaSetIndex, Refusal>
     requires { at < 2 ^ 34 }
     ensures { delta_set_outcome result ≡ run font.now (map_entry at glyph_id) }
 {
-    let format = match u16_at(font, at) {
-        Half::Value(x) => x,
-        Half::Refused(n) => return DeltaSetAnswer::Refused(n),
-    };
-    let count = match u16_at(font, at + 2) {
-        Half::Value(x) => x,
-        Half::Refused(n) => return DeltaSetAnswer::Refused(n),
-    };
+    let format = read::<u16>(font, at)?;
+    let count = read::<u16>(font, at + 2)?;
     if count == 0 {
-        return DeltaSetAnswer::Refused(Refusal::Arithmetic);
+        return Err(Refusal::Arithmetic);
     }
-    let index = entry_index(glyph_id, count);
-    let entry = match entry_at(font, at + 4, format / 16 % 4 + 1, index) {
-        Word::Value(x) => x,
-        Word::Refused(n) => return DeltaSetAnswer::Refused(n),
-    };
+    // a glyph past the last entry uses that
+    let index = glyph_id.min(count - 1);
+    let entry = entry_at(font, at + 4, format / 16 % 4 + 1, index)?;
     let bits = (format % 16 + 1) as u32;
-    DeltaSetAnswer::Value(DeltaSetIndex {
+    Ok(DeltaSetIndex {
         outer: (entry >> bits) % 0x1_0000,
         inner: (entry & ((1 << bits) - 1)) as u16,
     })
@@ -136,59 +106,38 @@ pub fn map_field(measure: Measure) -> usize
 }
 
 // The delta-set index of a glyph: without a map, an advance is found by the glyph itself.
-fn delta_set(font: &[u8], base: u32, measure: Measure, glyph_id: u16) -> DeltaSetAnswer
+fn delta_set(
+    font: &[u8],
+    base: u32,
+    measure: Measure,
+    glyph_id: u16,
+) -> Result<DeltaSetIndex, Refusal>
     ensures { delta_set_outcome result ≡ run font.now (delta_set_index_at base (measure_of measure) glyph_id) }
 {
-    let offset = match u32_at(font, (base as usize) + map_field(measure)) {
-        Word::Value(x) => x,
-        Word::Refused(n) => return DeltaSetAnswer::Refused(n),
-    };
+    let offset = read::<u32>(font, (base as usize) + map_field(measure))?;
     if offset != 0 {
         return map_entry(font, (base as usize) + (offset as usize), glyph_id);
     }
     match measure {
-        Measure::Advance => DeltaSetAnswer::Value(DeltaSetIndex {
+        Measure::Advance => Ok(DeltaSetIndex {
             outer: 0,
             inner: glyph_id,
         }),
-        Measure::Bearing => DeltaSetAnswer::Refused(Refusal::Absent),
+        Measure::Bearing => Err(Refusal::Absent),
     }
 }
 
 // Where the HVAR or VVAR at base has the delta of a glyph's measure.
-fn place_of(font: &[u8], base: u32, measure: Measure, glyph_id: u16) -> PlaceAnswer
+fn place_of(font: &[u8], base: u32, measure: Measure, glyph_id: u16) -> Result<Place, Refusal>
     ensures { place_outcome result ≡ run font.now (place_of base (measure_of measure) glyph_id) }
 {
-    let store = match store_of(font, base) {
-        Word::Value(x) => x,
-        Word::Refused(n) => return PlaceAnswer::Refused(n),
-    };
-    let index = match delta_set(font, base, measure, glyph_id) {
-        DeltaSetAnswer::Value(x) => x,
-        DeltaSetAnswer::Refused(n) => return PlaceAnswer::Refused(n),
-    };
-    let outer = index.outer;
-    let inner = index.inner;
-    PlaceAnswer::Value(Place {
+    let store = store_of(font, base)?;
+    let index = delta_set(font, base, measure, glyph_id)?;
+    Ok(Place {
         store,
-        outer,
-        inner,
+        outer: index.outer,
+        inner: index.inner,
     })
-}
-
-// The delta at a place (DECISIONS 78).
-fn delta_from(font: &[u8], place: PlaceAnswer, coords: &[i16]) -> FixedAnswer
-    ensures { outcome_fixed result ≡ delta_from font.now coords.now (place_outcome place) }
-{
-    match place {
-        PlaceAnswer::Value(p) => {
-            let store = p.store;
-            let outer = p.outer;
-            let inner = p.inner;
-            item_delta(font, store, outer, inner, coords)
-        }
-        PlaceAnswer::Refused(n) => FixedAnswer::Refused(n),
-    }
 }
 
 // The delta of a glyph's measure, by the HVAR or VVAR at base.
@@ -198,31 +147,32 @@ pub fn metric_delta(
     measure: Measure,
     glyph_id: u16,
     coords: &[i16],
-) -> FixedAnswer
+) -> Result<Fixed, Refusal>
     ensures { outcome_fixed result ≡ metric_delta font.now base (measure_of measure) glyph_id coords.now }
 {
-    delta_from(font, place_of(font, base, measure, glyph_id), coords)
+    place_of(font, base, measure, glyph_id)?.delta(font, coords)
 }
 
 // A delta as swash hands it out: 0.0 on any refusal.
-pub fn float_of(delta: FixedAnswer) -> f32
+pub fn float_of(delta: Result<Fixed, Refusal>) -> f32
     ensures { result ≡ float_of (outcome_fixed delta) }
 {
     match delta {
-        FixedAnswer::Value(x) => x.to_f32(),
-        FixedAnswer::Refused(_) => 0.0,
+        Ok(x) => f32::from(x),
+        Err(_) => 0.0,
     }
 }
 
 // The delta of an advance, as an answer and as a float. Written out, and not by `metric_delta`: DECISIONS 78.
-pub fn advance_delta_fixed(font: &[u8], xvar: u32, glyph_id: u16, coords: &[i16]) -> FixedAnswer
+pub fn advance_delta_fixed(
+    font: &[u8],
+    xvar: u32,
+    glyph_id: u16,
+    coords: &[i16],
+) -> Result<Fixed, Refusal>
     ensures { outcome_fixed result ≡ metric_delta font.now xvar advance glyph_id coords.now }
 {
-    delta_from(
-        font,
-        place_of(font, xvar, Measure::Advance, glyph_id),
-        coords,
-    )
+    place_of(font, xvar, Measure::Advance, glyph_id)?.delta(font, coords)
 }
 
 pub fn advance_delta(font: &[u8], xvar: u32, glyph_id: u16, coords: &[i16]) -> f32
@@ -232,14 +182,15 @@ pub fn advance_delta(font: &[u8], xvar: u32, glyph_id: u16, coords: &[i16]) -> f
 }
 
 // The delta of a side bearing, in the same way.
-pub fn sb_delta_fixed(font: &[u8], xvar: u32, glyph_id: u16, coords: &[i16]) -> FixedAnswer
+pub fn sb_delta_fixed(
+    font: &[u8],
+    xvar: u32,
+    glyph_id: u16,
+    coords: &[i16],
+) -> Result<Fixed, Refusal>
     ensures { outcome_fixed result ≡ metric_delta font.now xvar bearing glyph_id coords.now }
 {
-    delta_from(
-        font,
-        place_of(font, xvar, Measure::Bearing, glyph_id),
-        coords,
-    )
+    place_of(font, xvar, Measure::Bearing, glyph_id)?.delta(font, coords)
 }
 
 pub fn sb_delta(font: &[u8], xvar: u32, glyph_id: u16, coords: &[i16]) -> f32

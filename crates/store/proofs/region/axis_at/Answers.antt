@@ -1,4 +1,6 @@
 -- `store::region::axis_at` meets its contract. Assumes nothing.
+use mathlib.Core.Path.{ap, ◌∙◌}
+use Rattle.readers.specs.Outcome.{value}
 use Rattle.readers.proofs.Reading.{answered}
 use Rattle.opentype.specs.Region.{tent_at}
 use Rattle.store.proofs.Triples.{triple_there, triple_cut}
@@ -8,14 +10,8 @@ pub returns-then-font-at : goal.returns-then-font-at
 unfolding tent_at
 returns-then-font-at c = triple_cut _ _ _ c.if-font-at.true
 
-pub returns-in-Next : goal.returns-in-Next
+pub returns : goal.returns
 unfolding tent_at
-returns-in-Next c =
+returns c =
     triple_there _ _ _ _ c.if-font-at.false
-    (rw (← c.coord_in-start.ensures, ← c.coord_in-peak.ensures, ← c.coord_in-end.ensures, ← c.under_triple.ensures, c.in-Next.is) (answered _ _))
-
-pub returns-in-Outside : goal.returns-in-Outside
-unfolding tent_at
-returns-in-Outside c =
-    triple_there _ _ _ _ c.if-font-at.false
-    (rw (← c.coord_in-start.ensures, ← c.coord_in-peak.ensures, ← c.coord_in-end.ensures, ← c.under_triple.ensures, c.in-Outside.is) (answered _ _))
+    (rw (c.from_be_data-start.ensures, c.from_be_data-peak.ensures, c.from_be_data-end.ensures) at (ap value c.under_triple.ensures) ∙ answered _ _)

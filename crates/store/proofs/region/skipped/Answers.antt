@@ -1,38 +1,41 @@
 -- `store::region::skipped` meets its contract. Assumes nothing.
-use mathlib.Core.Path.{sym, ◌∙◌}
-use Rattle.opentype.specs.Region.{skipped}
+use mathlib.Core.Path.{◌≡◌, refl, sym, ◌∙◌}
+use mathlib.Core.Bool.{true, false, ◌||◌}
+use lib.IntN.{pos}
+use lib.Signed.{lt_z}
+use Rattle.numbers.proofs.Order.{below_was, alike_was, or_then, or_else}
+use Rattle.opentype.specs.Region.{same, skipped}
 use Rattle.store.proofs.region.skipped.Goals as goal
+use Rattle.store.proofs.region.skipped.Goals.{Joined-lt, Joined-lt-2, then-lt, else-lt, then-lt-2, else-lt-2}
 
-pub returns-then-lt : goal.returns-then-lt
-unfolding skipped
-returns-then-lt c = rw (sym c.lt.ensures ∙ c.if-lt.true)
+-- the tests as far as they have come
+two : (c : Joined-lt) → (lt_z c.args.peak.0 c.args.start.0 || lt_z c.args.end.0 c.args.peak.0) ≡ c.if-lt.value
+two c =
+    let t = c.args in
+    elim c.if-lt.branch [
+      | then-lt w ↦ or_then _ _ (below_was t.peak.0 t.start.0 c.lt.ensures w.if-lt.true) (w.value-is ∙ w.if-lt.true)
+      | else-lt w ↦ or_else _ _ (below_was t.peak.0 t.start.0 c.lt.ensures w.if-lt.false) (below_was t.end.0 t.peak.0 w.lt-else-lt.ensures (sym w.value-is))
+    ]
 
-pub returns-then-lt-2 : goal.returns-then-lt-2
-unfolding skipped
-returns-then-lt-2 c =
-    rw (sym c.lt.ensures ∙ c.if-lt.false, sym c.lt-2.ensures ∙ c.if-lt-2.true)
+three : (c : Joined-lt-2) → ((lt_z c.args.peak.0 c.args.start.0 || lt_z c.args.end.0 c.args.peak.0) || same c.args.peak.0 (pos 0)) ≡ c.if-lt-2.value
+three c = elim c.if-lt-2.branch [
+  | then-lt-2 w ↦ or_then _ _ (two c.before ∙ w.if-lt-2.true) (w.value-is ∙ w.if-lt-2.true)
+  | else-lt-2 w ↦ or_else _ _ (two c.before ∙ w.if-lt-2.false) (alike_was c.args.peak.0 (pos 0) w.eq.ensures (sym w.value-is))
+]
 
-pub returns-then-same : goal.returns-then-same
+pub returns-then-eq : goal.returns-then-eq
 unfolding skipped
-returns-then-same c =
-    rw (sym c.lt.ensures ∙ c.if-lt.false, sym c.lt-2.ensures ∙ c.if-lt-2.false, sym c.same.ensures ∙ c.if-same.true)
+returns-then-eq c = sym (or_then _ _ (three c.before ∙ c.if-eq.true) c.if-eq.true)
 
 pub returns-then-lt-3 : goal.returns-then-lt-3
 unfolding skipped
 returns-then-lt-3 c =
-    rw (
-      sym c.lt.ensures ∙ c.if-lt.false,
-      sym c.lt-2.ensures ∙ c.if-lt-2.false,
-      sym c.same.ensures ∙ c.if-same.false,
-      sym c.lt-3.ensures ∙ c.if-lt-3.true,
-    ) c.lt-then-lt-3.ensures
+    let t = c.args in
+    let starts : lt_z t.start.0 (pos 0) ≡ true = below_was t.start.0 (pos 0) c.lt-else-eq.ensures c.if-lt-3.true in
+    sym (or_else _ _ (three c.before.before.before.before.before.before.before.before ∙ c.if-eq.false) (rw starts (below_was (pos 0) t.end.0 c.lt-then-lt-3.ensures refl)))
 
-pub returns : goal.returns
+pub returns-else-lt-3 : goal.returns-else-lt-3
 unfolding skipped
-returns c =
-    rw (
-      sym c.lt.ensures ∙ c.if-lt.false,
-      sym c.lt-2.ensures ∙ c.if-lt-2.false,
-      sym c.same.ensures ∙ c.if-same.false,
-      sym c.lt-3.ensures ∙ c.if-lt-3.false,
-    )
+returns-else-lt-3 c =
+    let starts : lt_z c.args.start.0 (pos 0) ≡ false = below_was c.args.start.0 (pos 0) c.lt-else-eq.ensures c.if-lt-3.false in
+    sym (or_else _ _ (three c.before.before.before.before.before ∙ c.if-eq.false) (rw starts (sym c.if-lt-3.false)))

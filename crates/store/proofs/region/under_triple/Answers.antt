@@ -1,7 +1,13 @@
 -- `store::region::under_triple` meets its contract. Assumes nothing.
-use mathlib.Core.Path.{ap, sym, ◌∙◌}
-use Rattle.opentype.specs.Region.{tent, next}
+use mathlib.Core.Path.{◌≡◌, refl, ap, sym, ◌∙◌}
+use mathlib.Core.Bool.{Bool, true, false, ◌||◌}
+use lib.IntN.{ℤ}
+use lib.Signed.{lt_z}
+use Rattle.std.specs.Ordering.{is_lt, int_cmp}
+use Rattle.numbers.proofs.Order.{below_was, alike_was, or_then, or_else}
+use Rattle.opentype.specs.Region.{same, tent, next}
 use Rattle.store.proofs.region.under_triple.Goals as goal
+use Rattle.store.proofs.region.under_triple.Goals.{then-lt-via-then-lt, then-lt-via-else-lt+then-lt-2}
 
 pub returns-then-skipped : goal.returns-then-skipped
 unfolding tent
@@ -10,41 +16,41 @@ returns-then-skipped c = rw (sym c.skipped.ensures ∙ c.if-skipped.true)
 pub returns-then-lt : goal.returns-then-lt
 unfolding tent
 returns-then-lt c =
-    rw (sym c.skipped.ensures ∙ c.if-skipped.false, sym c.lt.ensures ∙ c.if-lt.true)
+    let t = c.args in
+    let outside : (lt_z t.c.0 t.start.0 || lt_z t.end.0 t.c.0) ≡ true =
+    elim c.then-lt.branch [
+      | then-lt-via-then-lt w ↦ or_then _ _ (below_was t.c.0 t.start.0 c.lt.ensures w.if-lt.true) refl
+      | then-lt-via-else-lt+then-lt-2 w ↦ or_else _ _ (below_was t.c.0 t.start.0 c.lt.ensures w.if-lt.false) (below_was t.end.0 t.c.0 w.lt-else-lt.ensures w.if-lt-2.true)
+    ] in
+    rw (sym c.skipped.ensures ∙ c.if-skipped.false, outside)
 
-pub returns-then-lt-2 : goal.returns-then-lt-2
-unfolding tent
-returns-then-lt-2 c =
-    rw (sym c.skipped.ensures ∙ c.if-skipped.false, sym c.lt.ensures ∙ c.if-lt.false, sym c.lt-2.ensures ∙ c.if-lt-2.true)
+inside : (c start end : ℤ) {s t : Bool} → s ≡ is_lt (int_cmp c start) → s ≡ false → t ≡ is_lt (int_cmp end c) → t ≡ false → (lt_z c start || lt_z end c) ≡ false
+inside c start end p q p' q' = or_else _ _ (below_was c start p q) (below_was end c p' q')
 
-pub returns-then-same : goal.returns-then-same
+pub returns-then-eq : goal.returns-then-eq
 unfolding tent
-returns-then-same c =
-    rw (
-      sym c.skipped.ensures ∙ c.if-skipped.false,
-      sym c.lt.ensures ∙ c.if-lt.false,
-      sym c.lt-2.ensures ∙ c.if-lt-2.false,
-      sym c.same.ensures ∙ c.if-same.true,
-    )
+returns-then-eq c =
+    let t = c.args in
+    rw (sym c.skipped.ensures ∙ c.if-skipped.false, inside t.c.0 t.start.0 t.end.0 c.lt.ensures c.if-lt.false c.lt-else-lt.ensures c.if-lt-2.false, alike_was t.c.0 t.peak.0 c.eq.ensures c.if-eq.true)
 
 pub returns-then-lt-3 : goal.returns-then-lt-3
 unfolding tent
 returns-then-lt-3 c =
+    let t = c.args in
     rw (
       sym c.skipped.ensures ∙ c.if-skipped.false,
-      sym c.lt.ensures ∙ c.if-lt.false,
-      sym c.lt-2.ensures ∙ c.if-lt-2.false,
-      sym c.same.ensures ∙ c.if-same.false,
-      sym c.lt-3.ensures ∙ c.if-lt-3.true,
+      inside t.c.0 t.start.0 t.end.0 c.lt.ensures c.if-lt.false c.lt-else-lt.ensures c.if-lt-2.false,
+      alike_was t.c.0 t.peak.0 c.eq.ensures c.if-eq.false,
+      below_was t.c.0 t.peak.0 c.lt-2.ensures c.if-lt-3.true,
     ) (ap next (rw (c.difference.ensures, c.difference-then-lt-3.ensures) at c.scaled.ensures))
 
 pub returns : goal.returns
 unfolding tent
 returns c =
+    let t = c.args in
     rw (
       sym c.skipped.ensures ∙ c.if-skipped.false,
-      sym c.lt.ensures ∙ c.if-lt.false,
-      sym c.lt-2.ensures ∙ c.if-lt-2.false,
-      sym c.same.ensures ∙ c.if-same.false,
-      sym c.lt-3.ensures ∙ c.if-lt-3.false,
+      inside t.c.0 t.start.0 t.end.0 c.lt.ensures c.if-lt.false c.lt-else-lt.ensures c.if-lt-2.false,
+      alike_was t.c.0 t.peak.0 c.eq.ensures c.if-eq.false,
+      below_was t.c.0 t.peak.0 c.lt-2.ensures c.if-lt-3.false,
     ) (ap next (rw (c.difference-2.ensures, c.difference-3.ensures) at c.scaled-2.ensures))

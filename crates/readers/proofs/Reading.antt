@@ -12,9 +12,9 @@ use lib.ListN.{length}
 use lib.Dec.{leb}
 use Rattle.std.specs.Prelude.{Result, Ok, Err, IsErr, IsErrAnd}
 use borrow.Author.Tests.{le-leb, lt-leb, lt-ltb, le-ltb, eq-eqb, ne_eqb}
-use Rattle.readers.specs.Outcome.{Outcome, value, refused, onward}
+use Rattle.readers.specs.Outcome.{Outcome, value, refused, onward, unless}
 use Rattle.readers.specs.Reading.{Reading, answer, refuse, tested, bytes_at, ◌>>=◌, big_endian, read_at, unsigned_at, signed_at, run}
-use Rattle.readers.specs.Answers.{refusal, outcome_as, outcome}
+use Rattle.readers.specs.Answers.{number_of, refusal, outcome_as, outcome}
 use Rattle.readers.specs.declared.Refusal.{Refusal}
 use Rattle.readers.proofs.Outcome.{onward_by, halt_by, unless_onward}
 
@@ -90,6 +90,24 @@ module _ {C : Type 0} (font : List ℕ) (w : Width) (p : ℕ) (f : ℤ → Readi
   pub stopped_signed : {R : Type 0} (seen : R → C) (r : Result R Refusal) (k : Refusal) → IsErr r × IsErrAnd r (λ e. e ≡ k) → refusal k ≡ run font (read_at (bits w / 8) (to_z w) p) → outcome_as seen r ≡ run font (signed_at w p >>= f)
   unfolding signed_at unsigned_at
   stopped_signed seen r k h t = stopped_call font (read_at (bits w / 8) (to_z w) p) f seen r k h t
+
+-- A read of which g is seen: of its value, and where it refuses.
+module _ {A B : Type 0} (font : List ℕ) (n p : ℕ) (f : ℕ → A) (g : A → B) where
+  pub seen_by : (x : A) → value x ≡ run font (read_at n f p) → value (g x) ≡ run font (read_at n (λ k. g (f k)) p)
+  unfolding run
+  seen_by x = go (leb (p + n) (length font)) (f (big_endian n font p))
+    where
+      go : (t : Bool) (y : A) → value x ≡ unless t 2 (value y) → value (g x) ≡ unless t 2 (value (g y))
+      go true y e = let same : x ≡ y = cc in ap (λ (z : A). value (g z)) same
+      go false y e = cc
+
+  pub cut_alike : (k : Refusal) → refusal {A = A} k ≡ run font (read_at n f p) → refusal {A = B} k ≡ run font (read_at n (λ k. g (f k)) p)
+  unfolding run
+  cut_alike k = go (leb (p + n) (length font)) (f (big_endian n font p))
+    where
+      go : (t : Bool) (y : A) → refusal {A = A} k ≡ unless t 2 (value y) → refusal {A = B} k ≡ unless t 2 (value (g y))
+      go true y e = cc
+      go false y e = let same : number_of k ≡ 2 = cc in ap refused same
 
 module _ {C : Type 0} (font : List ℕ) where
   pub answered : (a : C) → value a ≡ run font (answer a)

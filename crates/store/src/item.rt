@@ -93,7 +93,8 @@ fn delta_at(font: &[u8], row: usize, word_count: u16, k: u16) -> Result<i16, Ref
     if k < word_count {
         return read(font, row + 2 * (k as usize));
     }
-    Ok(read::<i8>(font, row + ((word_count as usize) + (k as usize)))? as i16)
+    let delta = read::<i8>(font, row + ((word_count as usize) + (k as usize)))?;
+    Ok(i16::from(delta))
 }
 
 // The scalar of a region of the list at an offset from a store. A row's sum has the list's numbers at hand, and does without.

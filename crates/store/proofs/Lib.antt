@@ -8,3 +8,7 @@ pub mod Joined
 pub mod Entries
 pub mod Places
 pub mod Apart
+pub mod Openings
+pub mod Records
+pub mod Search
+pub mod Opened

@@ -7,8 +7,11 @@ pub mod OnlyFootprint
 pub mod Joined
 pub mod Entries
 pub mod Places
-pub mod Apart
 pub mod Openings
 pub mod Records
 pub mod Search
 pub mod Opened
+pub mod ItemOne
+pub mod MetricOne
+pub mod MvarOne
+pub mod OpenOne

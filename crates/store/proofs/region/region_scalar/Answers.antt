@@ -1,5 +1,5 @@
 -- `store::region::region_scalar` meets its contract. Assumes nothing.
-use mathlib.Core.Path.{◌≡◌, refl}
+use mathlib.Core.Path.{refl}
 use native.Mathlib.Omega.{arith}
 use Rattle.readers.proofs.Reading.{answered}
 use Rattle.readers.proofs.Walk.{run_turned, run_ended}

@@ -1,6 +1,5 @@
 -- `store::region::region_scalar` meets its contract. Assumes nothing.
 use mathlib.Core.Path.{◌≡◌}
-use Prim.Native.Nat.{◌≤◌}
 use Rattle.readers.specs.Reading.{answer, run}
 use Rattle.readers.specs.Walk.{walk}
 use Rattle.opentype.specs.Region.{axis_turn, region_scalar}

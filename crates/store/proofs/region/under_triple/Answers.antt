@@ -5,7 +5,7 @@ use lib.IntN.{ℤ}
 use lib.Signed.{lt_z}
 use Rattle.std.specs.Ordering.{is_lt, int_cmp}
 use Rattle.numbers.proofs.Order.{below_was, alike_was, or_then, or_else}
-use Rattle.opentype.specs.Region.{same, tent, next}
+use Rattle.opentype.specs.Region.{tent, next}
 use Rattle.store.proofs.region.under_triple.Goals as goal
 use Rattle.store.proofs.region.under_triple.Goals.{then-lt-via-then-lt, then-lt-via-else-lt+then-lt-2}
 

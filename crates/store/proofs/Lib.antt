@@ -15,3 +15,5 @@ pub mod ItemOne
 pub mod MetricOne
 pub mod MvarOne
 pub mod OpenOne
+pub mod Keys
+pub mod KeyedOne

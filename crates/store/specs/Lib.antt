@@ -1,4 +1,5 @@
 -- What the contracts of `store` cite.
+pub mod KeyedAnswers
 pub mod RegionAnswers
 pub mod ItemAnswers
 pub mod MetricAnswers

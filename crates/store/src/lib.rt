@@ -2,6 +2,7 @@
 #![tactic(auto)]
 
 pub mod item;
+pub mod keyed;
 pub mod metric;
 pub mod mvar;
 pub mod mvar_deltas;

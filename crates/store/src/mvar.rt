@@ -7,6 +7,7 @@ ghost use Rattle.store.specs.MvarAnswers.{header_of, header_outcome, opened_of, 
 ghost use Rattle.store.specs.MvarDeltasAnswers.{deltas_of, wanted_by};
 
 use crate::item::item_delta;
+use crate::keyed::Records;
 use crate::metric::float_of;
 use crate::mvar_deltas::{MeasureDeltas, Wanted};
 use crate::mvar_tags::*;
@@ -37,26 +38,17 @@ fn header_at(data: &[u8]) -> Result<Header, Refusal>
     })
 }
 
-// Where the record of a tag starts. swash's walk: the middle of what is left, whether or not the records are sorted.
+// Where the record of a tag starts.
 pub fn find(data: &[u8], rec_size: u16, rec_count: u16, tag: u32) -> Result<usize, Refusal>
     ensures { outcome result ≡ run «data».now (find (header_of rec_size rec_count 0) tag) }
 {
-    let size = rec_size as usize;
-    let mut l: usize = 0;
-    let mut h = rec_count as usize;
-    while l < h {
-        let i = (l + h) / 2;
-        let at = 12 + i * size;
-        let t = read::<u32>(data, at)?;
-        if tag < t {
-            h = i;
-        } else if t < tag {
-            l = i + 1;
-        } else {
-            return Ok(at);
-        }
-    }
-    Err(Refusal::Tag)
+    let records = Records {
+        table: 0,
+        head: 12,
+        size: rec_size,
+        count: rec_count,
+    };
+    records.find(data, tag)?.ok_or(Refusal::Tag)
 }
 
 // The part of the font from a position on; past the end it is empty.

@@ -18,7 +18,8 @@ const MOST: usize = 65_536;
 
 const LOOK: usize = 65_537;
 
-// Room for any listing: the counts and 65,535 axes, at most 64 bytes each.
+// Room for any listing: the counts and 65,535 axes, at most 64 bytes each. An array and a position, and no `ArrayVec`: handed over by
+// value, one of this size overran a stack of 8 MiB (tried).
 pub const ROOM: usize = 4_194_304;
 
 // Puts a line from a position on and answers the position behind it.

@@ -1,4 +1,4 @@
--- The library's digits are the definitions'. Assumes nothing.
+-- What itoa and hex write are the definitions' digits. Assumes nothing.
 use Prim.Native.Nat.{ℕ, zero, suc, ◌+◌, ◌/◌, ◌%◌, ◌^◌, ◌≤◌, ◌<◌}
 use mathlib.Core.Path.{◌≡◌, refl, sym, ap}
 use mathlib.Core.Bool.{Bool, true, false, not}
@@ -36,12 +36,12 @@ enough (suc t) (suc u) n p q =
     (λ h. refl)
     (λ h. ap suc (enough t u (n / 10) (omega arith) (omega arith)))
 
-pub places_one : (n : ℕ) → n < 10 → places n ≡ 1
+places_one : (n : ℕ) → n < 10 → places n ≡ 1
 unfolding places places_in
 places_one zero h = refl
 places_one (suc n) h = rw (lt-ltb (suc n) 10 h)
 
-pub places_more : (n : ℕ) → 10 ≤ n → places n ≡ suc (places (n / 10))
+places_more : (n : ℕ) → 10 ≤ n → places n ≡ suc (places (n / 10))
 unfolding places places_in
 places_more zero h = omega arith
 places_more (suc n) h = rw (le-ltb (suc n) 10 h) (ap suc (enough n (suc n / 10) (suc n / 10) (omega arith) (omega arith)))

@@ -11,6 +11,7 @@ use arrayvec::ArrayVec;
 // Room for any line: the longest is an axis's, of 63 bytes.
 pub const ROOM: usize = 64;
 
+// A line is the list of its bytes.
 pub type Line = ArrayVec<u8, ROOM>;
 
 // What an axis's line shows; min, default and max are the raw 16.16 numbers.

@@ -1,28 +1,29 @@
 -- Lines, one behind another. Assumes nothing.
-use Prim.Native.Nat.{ℕ, ◌+◌}
-use mathlib.Core.Path.{◌≡◌, refl, sym, ap}
-use mathlib.Core.List.{List, ◌++◌}
-use native.Mathlib.Numerals.{add-one}
-use native.Mathlib.Omega.{arith}
-use lib.ListN.{length, take}
-use lib.Seq.{length-sets, take_at}
+use Rattle.std.proofs.Common.{◌≡◌, ℕ, ◌+◌, List, ◌++◌, length, take, drop, sym, ap, ◌∙◌, append_assoc, append-nil, length-append, add-one}
+use Rattle.std.proofs.lemmas.List.{take_at, drop_at, drop-drop}
 use Rattle.opentype.specs.Fvar.{Header}
-use Rattle.listing.specs.Text.{Put}
-use Rattle.listing.proofs.Puts.{then}
-use Rattle.lister.specs.Listing.{axis_text, axis_lines}
+use Rattle.lister.specs.Listing.{axis_text, axis_lines, over}
 
--- a line that was made at the start of a buffer of its own
-pub taken : (text rest : List ℕ) {line l o : List ℕ} {n at r : ℕ} → (n ≡ length text) × (line ≡ text ++ rest) → Put (take n line) l o at r → Put text l o at r
-taken text rest {n = n} e p = rw (e.1, take_at text rest n (sym e.0)) at p
+-- a line is put behind the text at the start of a buffer
+module _ (text line lent : List ℕ) (out : List ℕ) (at : ℕ) (n : at ≡ length text) (h : out ≡ over text lent) where
+  front : take at out ≡ text
+  front = rw h (take_at text (drop (length text) lent) at (sym n))
 
--- behind what was put stand the lines of no axes
-pub no_axes : (table : List ℕ) (header : Header) {t l m : List ℕ} {at a : ℕ} → Put t l m at a → Put (axis_lines table header 0) m m a a
+  rest : drop (at + length line) out ≡ drop (length (text ++ line)) lent
+  rest =
+      sym (drop-drop (length line) at out) ∙ ap (drop (length line)) (ap (drop at) h ∙ drop_at text (drop (length text) lent) at (sym n)) ∙ drop-drop (length line) (length text) lent
+      ∙ ap (λ k. drop k lent) (sym (length-append text line))
+
+  pub behind : {items new : List ℕ} {end : ℕ} → items ≡ line → end ≡ at + length items → new ≡ take at out ++ items ++ drop end out
+      → (end ≡ length (text ++ line)) × (new ≡ over (text ++ line) lent)
+  behind same position after =
+      let stop : _ = position ∙ ap (λ l. at + length l) same in
+      (stop ∙ ap (λ k. k + length line) n ∙ sym (length-append text line), after ∙ rw (same, stop, front, rest))
+
+pub no_axes : (table : List ℕ) (header : Header) (counts : List ℕ) → counts ++ axis_lines table header 0 ≡ counts
 unfolding axis_lines
-no_axes table header {t} {l} {m} {at} p =
-    record { position = omega arith; room = omega (arith, p.room, ap length p.content, length-sets l at t); content = refl }
+no_axes table header counts = append-nil counts
 
--- and then each axis's
-pub one_more : (table : List ℕ) (header : Header) (i : ℕ) {l m o : List ℕ} {at a b : ℕ} → Put (axis_lines table header i) l m at a → Put (axis_text table header i) m o a b
-    → Put (axis_lines table header (i + 1)) l o at b
+pub one_more : (table : List ℕ) (header : Header) (counts : List ℕ) (i : ℕ) → (counts ++ axis_lines table header i) ++ axis_text table header i ≡ counts ++ axis_lines table header (i + 1)
 unfolding axis_lines
-one_more table header i p q = rw (add-one i) (then p q)
+one_more table header counts i = rw (add-one i) (append_assoc counts (axis_lines table header i) (axis_text table header i))

@@ -1,5 +1,5 @@
 -- The whole listing of an input (document 01, "The axis listing"): the bytes that are printed, in their order.
-use Rattle.std.specs.Prelude.{ℕ, zero, suc, cond, List, [], ◌++◌, leb, length}
+use Rattle.std.specs.Prelude.{ℕ, zero, suc, ◌≤◌, ◌≡◌, cond, List, [], ◌++◌, leb, length, take, drop}
 use Rattle.readers.specs.Outcome.{Outcome, value, refused}
 use Rattle.readers.specs.Reading.{run}
 use Rattle.opentype.specs.Axis.{Axis}
@@ -26,3 +26,11 @@ table_text table header = counts_line header.axis_count header.instance_count ++
 -- A bare fvar of at most 65,536 bytes, else the one line `input too long`.
 unfoldable pub listing : List ℕ → List ℕ
 listing input = cond (leb (length input) 65_536) (table_text input (header_of input)) too_long_line
+
+-- What a buffer holds once a text is put at its start: the text, then what was there.
+abbrev pub over : List ℕ → List ℕ → List ℕ
+over bytes buffer = bytes ++ drop (length bytes) buffer
+
+-- A buffer has n bytes to lend from its start on; the second part follows from the first, and spares a caller the proof.
+abbrev pub Leads : ℕ → List ℕ → Type 0
+Leads n buffer = (n ≤ length buffer) × (n ≡ length (take n buffer))

@@ -1,5 +1,5 @@
 -- The lines of the axis listing (document 01, "The axis listing").
-use Rattle.std.specs.Prelude.{ℕ, ◌≤◌, ◌≡◌, List, [], ◌∷◌, ◌++◌, length, take, drop, ℤ}
+use Rattle.std.specs.Prelude.{ℕ, List, [], ◌∷◌, ◌++◌, ℤ}
 use Rattle.listing.specs.Text.{ascii, decimal, signed, hex8}
 
 -- Words with single blanks between them and a newline behind the last.
@@ -24,11 +24,3 @@ refused_line index number = line (decimal index ∷ ascii "refused" ∷ decimal 
 -- An input of more than 65,536 bytes has this one line.
 unfoldable pub too_long_line : List ℕ
 too_long_line = line (ascii "input too long" ∷ [])
-
--- What a buffer holds once a line is put at its start: the line, then what was there.
-abbrev pub over : List ℕ → List ℕ → List ℕ
-over bytes buffer = bytes ++ drop (length bytes) buffer
-
--- A buffer has n bytes to lend from its start on; the second part follows from the first, and spares a caller the proof.
-abbrev pub Leads : ℕ → List ℕ → Type 0
-Leads n buffer = (n ≤ length buffer) × (n ≡ length (take n buffer))

@@ -1,8 +1,7 @@
 -- Numbers as text: decimal digits without leading zeros, and hex digits. A text is the list of its ASCII codes.
-use Rattle.std.specs.Prelude.{ℕ, zero, suc, ◌+◌, ◌/◌, ◌%◌, ◌≤◌, ◌≡◌, Bool, true, false, List, [], ◌∷◌, ◌++◌, ltb, get_or, length, ℤ, pos, negsuc}
+use Rattle.std.specs.Prelude.{ℕ, zero, suc, ◌/◌, ◌%◌, Bool, true, false, List, [], ◌∷◌, ◌++◌, ltb, get_or, ℤ, pos, negsuc}
 use Prim.Native.String.{String, [] as []ˢ, ◌∷◌ as ◌∷ˢ◌}
 use Prim.Native.Char.{code}
-use Rattle.std.proofs.lemmas.List.Edits.{sets}
 
 abbrev pub ascii : String → List ℕ
 ascii []ˢ = []
@@ -39,9 +38,3 @@ signed (negsuc n) = ascii "-" ++ decimal (suc n)
 -- A tag: eight hex digits.
 unfoldable pub hex8 : ℕ → List ℕ
 hex8 n = digits 16 8 n
-
--- Bytes are put into a buffer from a position on and fit there, and nothing else in it changes; next is the position behind them.
-pub record Put (bytes before after : List ℕ) (at next : ℕ) : Type 0 where
-  pub position : next ≡ at + length bytes
-  pub room : next ≤ length before
-  pub content : after ≡ sets before at bytes

@@ -1,3 +1,2 @@
 -- The laws that the proofs of `numerals` share; no second answer.
-pub mod Laws
 pub mod One

@@ -1,139 +1,80 @@
 // Numbers in a text. A text is a list of ASCII codes.
 #![tactic(auto)]
 
-ghost use Rattle.std.specs.Prelude.{◌≡◌, ◌≤◌, from_bits};
+ghost use Rattle.std.specs.Prelude.{◌≡◌, ◌≤◌, from_bits, IfSome};
 ghost use Rattle.std.specs.Float.{binary32};
-ghost use Rattle.numerals.specs.Parse.{said, said_place, digit_of, number_in, place_in, bits_of, bits_of_minus, integer_bits, float_bits};
+ghost use Rattle.numerals.specs.Parse.{digit_of, number_in, place_in, integer_bits, float_bits};
 
-// What a text of digits says.
-#[derive(Clone, Copy)]
-pub enum Parsed {
-    Value(u32),
-    Not,
-}
-
-#[derive(Clone, Copy)]
-pub enum Place {
-    Value(u16),
-    Not,
-}
-
-// A digit's value; 16 for what is none.
-pub fn digit(byte: u8) -> u64
-    ensures { (result ≡ digit_of byte) × (result ≤ 16) }
+// A digit's value. Capital letters are no digits here, which `char::to_digit` takes.
+pub fn digit(byte: u8) -> Option<u8>
+    ensures value { result ≡ digit_of byte }
+    ensures bound { IfSome result (λ d. d ≤ 15) }
 {
-    if byte < b'0' {
-        return 16;
+    match byte {
+        b'0'..=b'9' => Some(byte - b'0'),
+        b'a'..=b'f' => Some(byte - b'a' + 10),
+        _ => None,
     }
-    if byte <= b'9' {
-        return (byte - b'0') as u64;
-    }
-    if byte < b'a' {
-        return 16;
-    }
-    if byte <= b'f' {
-        return (byte - b'a') as u64 + 10;
-    }
-    16
 }
 
 // One digit or more, whose value is below 2^32.
-fn digits(text: &[u8], base: u64) -> Parsed
-    requires { base ≤ 16 }
-    ensures { said result ≡ number_in base text.now }
+fn digits(text: &[u8], base: u32) -> Option<u32>
+    ensures { result ≡ number_in base text.now }
 {
-    if text.len() == 0 {
-        return Parsed::Not;
+    if text.is_empty() {
+        return None;
     }
-    let mut n: u64 = 0;
-    let mut i = 0;
-    while i < text.len() {
-        let d = digit(text[i]);
-        if d >= base {
-            return Parsed::Not;
+    let mut number: u32 = 0;
+    for &byte in text {
+        let value = u32::from(digit(byte)?);
+        if value >= base {
+            return None;
         }
-        n = n * base + d;
-        if n > 0xffff_ffff {
-            return Parsed::Not;
-        }
-        i += 1;
+        number = number.checked_mul(base)?.checked_add(value)?;
     }
-    Parsed::Value(n as u32)
+    Some(number)
 }
 
 // A number below 2^32 in decimal.
-pub fn natural(text: &[u8]) -> Parsed
-    ensures { said result ≡ number_in 10 text.now }
+pub fn natural(text: &[u8]) -> Option<u32>
+    ensures { result ≡ number_in 10 text.now }
 {
     digits(text, 10)
 }
 
 // A number below 2^16 in decimal.
-pub fn index(text: &[u8]) -> Place
-    ensures { said_place result ≡ place_in text.now }
+pub fn index(text: &[u8]) -> Option<u16>
+    ensures { result ≡ place_in text.now }
 {
-    let Parsed::Value(n) = natural(text) else {
-        return Place::Not;
-    };
-    if n > 0xffff {
-        return Place::Not;
-    }
-    Place::Value(n as u16)
+    u16::try_from(natural(text)?).ok()
 }
 
 // The 32 bits of a signed number in decimal, perhaps with a minus, from -2^31 to 2^31 - 1.
-pub fn integer(text: &[u8]) -> Parsed
-    ensures { said result ≡ integer_bits text.now }
+pub fn integer(text: &[u8]) -> Option<u32>
+    ensures { result ≡ integer_bits text.now }
 {
-    if text.len() == 0 {
-        return Parsed::Not;
+    match text {
+        [b'-', magnitude @ ..] => natural(magnitude)
+            .filter(|&n| n <= 0x8000_0000)
+            .map(u32::wrapping_neg),
+        _ => natural(text).filter(|&n| n < 0x8000_0000),
     }
-    if text[0] == b'-' {
-        return negative(natural(&text[1..]));
-    }
-    positive(natural(text))
-}
-
-fn positive(magnitude: Parsed) -> Parsed
-    ensures { said result ≡ bits_of (said magnitude) }
-{
-    let Parsed::Value(n) = magnitude else {
-        return Parsed::Not;
-    };
-    if n >= 0x8000_0000 {
-        return Parsed::Not;
-    }
-    Parsed::Value(n)
-}
-
-fn negative(magnitude: Parsed) -> Parsed
-    ensures { said result ≡ bits_of_minus (said magnitude) }
-{
-    let Parsed::Value(n) = magnitude else {
-        return Parsed::Not;
-    };
-    if n > 0x8000_0000 {
-        return Parsed::Not;
-    }
-    Parsed::Value(std::num::wrapping_sub_u32(0, n))
 }
 
 // A float's bits: eight hexadecimal digits.
-pub fn float_bits(text: &[u8]) -> Parsed
-    ensures { said result ≡ float_bits text.now }
+pub fn float_bits(text: &[u8]) -> Option<u32>
+    ensures { result ≡ float_bits text.now }
 {
-    if text.len() != 8 {
-        return Parsed::Not;
+    if text.len() == 8 {
+        digits(text, 16)
+    } else {
+        None
     }
-    digits(text, 16)
 }
 
 // The float with the bits n. All NaNs are one.
 pub fn float(n: u32) -> f32
     ensures { result ≡ from_bits binary32 n }
 {
-    if n % 0x8000_0000 > 0x7f80_0000 {
-        return 0.0 / 0.0;
-    }
-    f32::from_bits(n)
+    std::num::f32_from_bits_with_nan(n)
 }

@@ -1,12 +1,11 @@
--- The counts, then the lines of the first i axes, at most 64 bytes each. Assumes nothing.
-use Prim.Native.Nat.{◌+◌, ◌-◌, ◌*◌, ◌≤◌}
+-- The counts, then the lines of the first axes, at most 64 bytes each. Assumes nothing.
+use Rattle.std.proofs.Common.{◌≡◌, ◌+◌, ◌*◌, ◌≤◌, ◌++◌, length}
 use Rattle.axes.specs.FvarAnswers.{header}
-use Rattle.listing.specs.Text.{Put}
-use Rattle.lister.specs.Listing.{axis_lines}
+use Rattle.listing.specs.Lines.{counts_line}
+use Rattle.lister.specs.Listing.{axis_lines, over}
 use Rattle.lister.proofs.put_table.Given as goal
 
-abbrev pub invariant-loop-i : goal.invariant-loop-i
-invariant-loop-i l = (l.i ≤ l.count) × ((l.at ≤ 64 * (l.i + 1)) × Put (axis_lines l.table (header l.fvar) l.i) l.initial.out l.out l.initial.at l.at)
-
-abbrev pub decreases-loop-i : goal.decreases-loop-i
-decreases-loop-i l = l.count - l.i
+abbrev pub invariant-loop-index : goal.invariant-loop-index
+invariant-loop-index l =
+    let text = counts_line l.fvar.axis_count l.fvar.inst_count ++ axis_lines l.table (header l.fvar) l.index in
+    record { room : l.at ≤ 64 * (l.index + 1); text : (l.at ≡ length text) × (l.out ≡ over text l.fn.out) }

@@ -1,16 +1,19 @@
 -- The words of the line, each by what put it. Assumes nothing.
-use Rattle.listing.specs.Text.{ascii}
-use Rattle.listing.specs.Lines.{counts_line}
-use Rattle.listing.proofs.Words.{word, last, whole}
+use Rattle.std.proofs.Common.{append_assoc, arith}
+use Rattle.listing.specs.Lines.{line, counts_line}
+use Rattle.listing.proofs.Digits.{decimal_is}
 use Rattle.listing.proofs.counts_line.Goals as goal
 
 pub returns : goal.returns
-unfolding counts_line
+unfolding counts_line line
 returns c =
-    let p =
-    whole _
-    (word (ascii "axes") _ _ c.put_word-a.ensures
-    (word _ _ _ c.put_decimal-b.ensures.put
-    (word (ascii "instances") _ _ c.put_word-c.ensures
-    (last _ c.put_decimal.ensures.put)))) in
-    record { value = p.0; leads = p.1 }
+    simp (
+      c.put_number-2.ensures.items,
+      c.put_word-2.ensures.items,
+      c.put_number.ensures.items,
+      c.put_word.ensures.items,
+      c.new-line.ensures,
+      decimal_is c.args.axes (omega arith),
+      decimal_is c.args.instances (omega arith),
+      append_assoc,
+    )

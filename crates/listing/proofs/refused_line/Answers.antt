@@ -1,15 +1,18 @@
 -- The words of the line, each by what put it. Assumes nothing.
-use Rattle.listing.specs.Text.{ascii}
-use Rattle.listing.specs.Lines.{refused_line}
-use Rattle.listing.proofs.Words.{word, last, whole}
+use Rattle.std.proofs.Common.{append_assoc, arith}
+use Rattle.listing.specs.Lines.{line, refused_line}
+use Rattle.listing.proofs.Digits.{decimal_is}
 use Rattle.listing.proofs.refused_line.Goals as goal
 
 pub returns : goal.returns
-unfolding refused_line
+unfolding refused_line line
 returns c =
-    let p =
-    whole _
-    (word _ _ _ c.put_decimal-a.ensures.put
-    (word (ascii "refused") _ _ c.put_word-b.ensures
-    (last _ c.put_decimal.ensures.put))) in
-    record { value = p.0; leads = p.1 }
+    simp (
+      c.put_number-2.ensures.items,
+      c.put_word.ensures.items,
+      c.put_number.ensures.items,
+      c.new-line.ensures,
+      decimal_is c.args.index (omega arith),
+      decimal_is c.args.number (omega arith),
+      append_assoc,
+    )

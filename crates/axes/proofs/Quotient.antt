@@ -1,6 +1,6 @@
 -- When a quotient is -2^31, and the tests of a number's sign. Assumes nothing.
 use mathlib.Core.Path.{◌≡◌, refl, sym, ◌∙◌}
-use mathlib.Core.Bool.{Bool, true, false, cond, not, true≢false}
+use mathlib.Core.Bool.{Bool, true, false, cond, not, ◌&&◌, ◌||◌, true≢false}
 use Prim.Native.Nat.{ℕ, zero, suc, ◌+◌, ◌-◌, ◌*◌, ◌/◌, ◌%◌, ◌^◌, ◌≤◌, ◌<◌, zero-le}
 use native.Mathlib.Omega.{arith}
 use lib.IntN.{ℤ, pos, negsuc, nat_abs}
@@ -11,7 +11,7 @@ use mir.Val.{to_z}
 use borrow.Author.Tests.{le-ltb, eq-eqb, ne_eqb, eqb-true, eqb-false, ltb-true, ltb-false}
 use Rattle.numbers.specs.Numbers.{wrap32, negated, is_neg, unlike, with_sign, quotient, over}
 use Rattle.numbers.proofs.Laws.{part_le}
-use Rattle.readers.specs.Outcome.{value}
+use Rattle.readers.specs.Outcome.{value, refused}
 use Rattle.opentype.specs.Axis.{is_least, fraction}
 
 -- Two tests of which each holds where the other does are one.
@@ -76,3 +76,13 @@ unfolding fraction
 part_fraction below (pos n) (pos d) p q = rw (part_not_least n d (ltb-false d n q))
 part_fraction below (pos n) (negsuc d) p q = absurd (true≢false q)
 part_fraction below (negsuc n) d p q = absurd (true≢false p)
+
+-- Where neither difference is -2^31: what is refused, and what is not.
+module _ (below : Bool) (n d : ℤ) (p : is_least n ≡ false) (q : is_least d ≡ false) where
+  pub quotient_refused : is_least (over n d) ≡ true → (below || unlike n d) ≡ true → refused 5 ≡ fraction below n d
+  unfolding fraction
+  quotient_refused e f = rw (p, q, ← least_over n d, e, f)
+
+  pub quotient_signed : (is_least (over n d) && (below || unlike n d)) ≡ false → value (cond below (negated (over n d)) (over n d)) ≡ fraction below n d
+  unfolding fraction
+  quotient_signed e = rw (p, q, ← least_over n d, e)

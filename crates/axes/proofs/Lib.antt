@@ -8,3 +8,6 @@ pub mod Instances
 pub mod Coords
 pub mod Parts
 pub mod Normalizing
+pub mod AxisOne
+pub mod FvarOne
+pub mod VariationOne

@@ -1,18 +1,18 @@
 -- A coordinate that a call answered, in a definition that goes on after it; a list of coordinates that are copied. Assumes nothing.
-use Prim.Native.Nat.{ℕ, zero, suc, ◌+◌, ◌-◌, ◌≤◌, ◌<◌}
+use Prim.Native.Nat.{ℕ, zero, suc, ◌≤◌, ◌<◌}
 use mathlib.Core.Path.{◌≡◌, refl, ap, sym, ◌∙◌}
-use mathlib.Core.List.{List, ◌∷◌, ◌++◌}
+use mathlib.Core.List.{List, ◌++◌}
 use native.Mathlib.Omega.{arith}
 use borrow.Author.Tests.{le-leb, lt-leb}
 use lib.IntN.{ℤ, pos}
-use lib.ListN.{length, get_or, replicate, set, take, drop}
+use lib.ListN.{length, get_or, replicate, take, drop}
 use Rattle.std.specs.Prelude.{Result, Ok, Err}
 use Rattle.std.proofs.lemmas.List.{append_assoc, length-take-le, length-replicate}
 use Rattle.std.proofs.Math.Seq.{take-suc, drop-cons, set-append_seam}
 use Rattle.numbers.specs.declared.F2Dot14.{F2Dot14}
 use Rattle.readers.specs.Outcome.{Outcome, value, refused, onward, value_or}
 use Rattle.readers.specs.Reading.{Done, done}
-use Rattle.readers.specs.Walk.{turns, walk}
+use Rattle.readers.specs.Walk.{walk}
 use Rattle.readers.specs.Lent.{fill}
 use Rattle.readers.specs.Answers.{refusal, outcome_f2_dot14}
 use Rattle.readers.specs.declared.Refusal.{Refusal}

@@ -7,7 +7,7 @@ use lib.Dec.{leb}
 use lib.ListN.{length}
 use Rattle.std.specs.Prelude.{Result, Ok, Err, Some, None}
 use Rattle.std.specs.Result.{IsErrAnd, result_ok, result_unwrap_or}
-use Rattle.readers.specs.Outcome.{Outcome, value, refused, onward, unless, value_or}
+use Rattle.readers.specs.Outcome.{Outcome, value, onward, unless, value_or}
 use Rattle.readers.specs.Reading.{read_at, big_endian, run}
 use Rattle.readers.specs.Answers.{outcome_as, outcome}
 use Rattle.readers.specs.declared.Refusal.{Refusal}

@@ -7,9 +7,9 @@ use borrow.Author.Tests.{le-leb, lt-leb}
 use lib.Dec.{leb, ltb}
 use lib.ListN.{length, take, drop}
 use Rattle.std.specs.Prelude.{Result, Ok, Err}
-use Rattle.readers.specs.Outcome.{Outcome, value, refused}
+use Rattle.readers.specs.Outcome.{value, refused}
 use Rattle.readers.specs.Reading.{big_endian, unsigned_at, run}
-use Rattle.readers.specs.Answers.{refusal, outcome_as}
+use Rattle.readers.specs.Answers.{refusal}
 use Rattle.readers.specs.declared.Refusal.{Refusal}
 use Rattle.readers.proofs.Outcome.{halt_by}
 use Rattle.readers.proofs.Reading.{answered}

@@ -1,5 +1,4 @@
 -- The code's comparisons of numbers, as the definitions have them. Assumes nothing.
-use Prim.Native.Nat.{ℕ, ◌<◌}
 use mathlib.Core.Path.{◌≡◌, refl, sym, ap, ◌∙◌}
 use mathlib.Core.Bool.{Bool, true, false, cond}
 use native.Mathlib.Omega.{arith}
@@ -10,7 +9,7 @@ use lib.Signed.{lt_z}
 use Rattle.std.proofs.Common.{Less, Equal, Greater, is_eq, is_lt, is_gt, int_cmp, int_eq}
 use Rattle.std.specs.Ordering.{ord_clamp}
 use Rattle.numbers.specs.declared.Fixed.{Fixed}
-use Rattle.numbers.specs.Numbers.{is_neg, lesser, greater}
+use Rattle.numbers.specs.Numbers.{is_neg, greater}
 use Rattle.axes.proofs.Quotient.{neg_test}
 use Rattle.opentype.specs.Axis.{is_least, held}
 

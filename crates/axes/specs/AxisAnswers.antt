@@ -1,7 +1,8 @@
 -- What the answers and structs of `axis` and `avar` stand for.
-use Rattle.std.specs.Prelude.{Result}
+use Rattle.std.specs.Prelude.{◌≡◌, ℕ, ℤ, Result}
+use Rattle.numbers.specs.declared.F2Dot14.{F2Dot14}
 use Rattle.readers.specs.Outcome.{Outcome}
-use Rattle.readers.specs.Answers.{outcome_as}
+use Rattle.readers.specs.Answers.{outcome_as, outcome_f2_dot14}
 use Rattle.readers.specs.declared.Refusal.{Refusal}
 use Rattle.opentype.specs.Axis.{Axis}
 use Rattle.opentype.specs.Avar.{SegmentMap, Pair}
@@ -28,3 +29,7 @@ map_outcome r = outcome_as map_of r
 
 abbrev pub pair_of : AxisValueMap → Pair
 pair_of p = record { from_coordinate = p.from.0; to_coordinate = p.to.0 }
+
+-- A call answers coordinate i as `of` has it.
+abbrev pub Answers : (ℕ → Result F2Dot14 Refusal → Type 0) → (ℕ → Outcome ℤ) → Type 0
+Answers post of = (i : ℕ) (r : Result F2Dot14 Refusal) → post i r → outcome_f2_dot14 r ≡ of i

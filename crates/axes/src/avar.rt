@@ -66,7 +66,12 @@ fn pair_at(font: &[u8], at: usize) -> AxisValueMap
 fn between(before: AxisValueMap, pair: AxisValueMap, value: Fixed) -> Fixed
     ensures { result.0 ≡ between (pair_of before) (pair_of pair) value.0 }
 {
-    before.to + muldiv(pair.to - before.to, value - before.from, pair.from - before.from)
+    before.to
+        + muldiv(
+            pair.to - before.to,
+            value - before.from,
+            pair.from - before.from,
+        )
 }
 
 // A map applied to a value.

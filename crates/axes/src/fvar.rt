@@ -183,7 +183,7 @@ impl Fvar {
         ensures part { outcome_as (λ v. v.now) result ≡ instance_values table.now (header self) index }
         ensures place { IfOk result
             (λ v. (v.ref_ptr.0 ≡ table.entry.ref_ptr.0)
-                × (v.ref_ptr.1 ≡ table.entry.ref_ptr.1 + (instance_start (header self) index + 4))) }
+            × (v.ref_ptr.1 ≡ table.entry.ref_ptr.1 + (instance_start (header self) index + 4))) }
     {
         let from = self.instance_record(table, index)?.coordinates;
         let to = from + 4 * usize::from(self.axis_count);
@@ -191,12 +191,7 @@ impl Fvar {
     }
 
     // The values as floats; nothing is written on a refusal.
-    pub fn instance_floats(
-        self,
-        table: &[u8],
-        index: u16,
-        out: &mut [f32],
-    ) -> Result<u16, Refusal>
+    pub fn instance_floats(self, table: &[u8], index: u16, out: &mut [f32]) -> Result<u16, Refusal>
         ensures count { outcome result ≡ float_count table.now (header self) index (length out.old) }
         ensures list { out.new ≡ floats_in table.now (header self) index out.old }
     {

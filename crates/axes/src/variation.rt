@@ -1,13 +1,13 @@
 // Coordinate lists: from settings, and for an instance (swash's variation.rs).
-ghost use Rattle.std.specs.Prelude.{◌≡◌, ◌≤◌, pos, length};
-ghost use Rattle.readers.specs.Outcome.{value_or};
+ghost use Rattle.std.specs.Prelude.{◌≡◌, ◌≤◌, ℕ, ℤ, pos, length};
+ghost use Rattle.readers.specs.Outcome.{Outcome, value_or};
 ghost use Rattle.readers.specs.Reading.{run};
 ghost use Rattle.readers.specs.Lent.{fill};
 ghost use Rattle.readers.specs.Answers.{outcome, outcome_as, outcome_f2_dot14};
 ghost use Rattle.opentype.specs.Axis.{no_axis};
 ghost use Rattle.opentype.specs.Fvar.{axis};
 ghost use Rattle.opentype.specs.Variation.{passed, coords_in, axis_coord, setting_coord, settings_count, settings_coords, value_coord, instance_count, instance_coords};
-ghost use Rattle.axes.specs.AxisAnswers.{axis_of};
+ghost use Rattle.axes.specs.AxisAnswers.{axis_of, Answers};
 ghost use Rattle.axes.specs.FvarAnswers.{header};
 
 use crate::axis::VarAxis;
@@ -25,6 +25,48 @@ const NO_AXIS: VarAxis = VarAxis {
     default: Fixed::ZERO,
     max: Fixed::ZERO,
 };
+
+// The coordinates of the first count axes, at most 32, in the first elements of out; answers how many. They wait in a list of their own
+// until none is refused, and none is worked out twice.
+fn few_coords<F: Fn(u16) -> Result<F2Dot14, Refusal>>(
+    coord: F,
+    count: u16,
+    out: &mut [i16],
+) -> Result<u16, Refusal>
+    requires callable { F.IsAlwaysCallable coord }
+    requires count_bound { count ≤ 32 }
+    requires count_in_bounds { count ≤ length out.old }
+    ensures count { (of : ℕ → Outcome ℤ) → Answers (F.post coord) of → outcome result ≡ passed of count }
+    ensures list { (of : ℕ → Outcome ℤ) → Answers (F.post coord) of → out.new ≡ coords_in of (passed of count) out.old }
+{
+    let mut coords = [0i16; 32];
+    for i in 0..count {
+        coords[usize::from(i)] = coord(i)?.0;
+    }
+    let n = usize::from(count);
+    out[..n].copy_from_slice(&coords[..n]);
+    Ok(count)
+}
+
+// The same of any number, in two passes: in the first nothing is written, and the first refusal is met.
+fn many_coords<F: Fn(u16) -> Result<F2Dot14, Refusal>>(
+    coord: F,
+    count: u16,
+    out: &mut [i16],
+) -> Result<u16, Refusal>
+    requires callable { F.IsAlwaysCallable coord }
+    requires count_in_bounds { count ≤ length out.old }
+    ensures count { (of : ℕ → Outcome ℤ) → Answers (F.post coord) of → outcome result ≡ passed of count }
+    ensures list { (of : ℕ → Outcome ℤ) → Answers (F.post coord) of → out.new ≡ coords_in of (passed of count) out.old }
+{
+    for i in 0..count {
+        coord(i)?;
+    }
+    for i in 0..count {
+        out[usize::from(i)] = coord(i).unwrap_or(F2Dot14::ZERO).0;
+    }
+    Ok(count)
+}
 
 // The coordinate of an axis: 0, or that of the last setting with the axis's tag.
 fn axis_coord(
@@ -66,7 +108,7 @@ fn setting_coord(
 }
 
 // The coordinates that settings give, tags[s] with values[s], in the first elements of out; answers how many. As in swash they are at most
-// 32, and wait in a list of their own until none is refused.
+// 32.
 pub fn normalized_coords(
     fvar: Fvar,
     table: &[u8],
@@ -83,16 +125,14 @@ pub fn normalized_coords(
         return Err(Refusal::Lengths);
     }
     let count = fvar.axis_count.min(32);
-    let n = usize::from(count);
-    if out.len() < n {
+    if out.len() < usize::from(count) {
         return Err(Refusal::Room);
     }
-    let mut coords = [0i16; 32];
-    for i in 0..count {
-        coords[usize::from(i)] = setting_coord(fvar, table, font, avar, tags, values, i)?.0;
-    }
-    out[..n].copy_from_slice(&coords[..n]);
-    Ok(count)
+    few_coords(
+        |i| setting_coord(fvar, table, font, avar, tags, values, i),
+        count,
+        out,
+    )
 }
 
 // The coordinate of axis i from its value in an instance's part; an axis that cannot be read is all zeros, with index 0.
@@ -108,57 +148,6 @@ fn value_coord(
 {
     let axis = fvar.get_axis(table, i).unwrap_or(NO_AXIS);
     axis.normalized_coord(value_or_zero(part, i), font, avar)
-}
-
-// The first pass: the refusal of the first coordinate that has one.
-fn first_pass(
-    fvar: Fvar,
-    table: &[u8],
-    font: &[u8],
-    avar: u32,
-    part: &[u8],
-) -> Result<(), Refusal>
-    ensures { outcome_as (λ _. fvar.axis_count) result ≡ passed (value_coord table.now (header fvar) font.now avar part.now) fvar.axis_count }
-{
-    for i in 0..fvar.axis_count {
-        value_coord(fvar, table, font, avar, part, i)?;
-    }
-    Ok(())
-}
-
-// The second: the coordinates are written.
-fn write_coords(fvar: Fvar, table: &[u8], font: &[u8], avar: u32, part: &[u8], out: &mut [i16])
-    requires { fvar.axis_count ≤ length out.old }
-    ensures { out.new ≡ fill (λ i. value_or (pos 0) (value_coord table.now (header fvar) font.now avar part.now i)) fvar.axis_count out.old }
-{
-    for i in 0..fvar.axis_count {
-        let coord = value_coord(fvar, table, font, avar, part, i).unwrap_or(F2Dot14::ZERO);
-        out[usize::from(i)] = coord.0;
-    }
-}
-
-// Both passes as one, for at most 32 axes, as fonts have: the coordinates wait in a list of their own, as those from settings do, and none is worked out twice.
-fn few_coords(
-    fvar: Fvar,
-    table: &[u8],
-    font: &[u8],
-    avar: u32,
-    part: &[u8],
-    out: &mut [i16],
-) -> Result<u16, Refusal>
-    requires axis_count_bound { fvar.axis_count ≤ 32 }
-    requires axis_count_in_bounds { fvar.axis_count ≤ length out.old }
-    ensures count { outcome result ≡ passed (value_coord table.now (header fvar) font.now avar part.now) fvar.axis_count }
-    ensures list { out.new ≡ coords_in (value_coord table.now (header fvar) font.now avar part.now) (passed (value_coord table.now (header fvar) font.now avar part.now) fvar.axis_count) out.old }
-{
-    let count = fvar.axis_count;
-    let n = usize::from(count);
-    let mut coords = [0i16; 32];
-    for i in 0..count {
-        coords[usize::from(i)] = value_coord(fvar, table, font, avar, part, i)?.0;
-    }
-    out[..n].copy_from_slice(&coords[..n]);
-    Ok(count)
 }
 
 // The coordinates of a named instance, one for each axis, in the first elements of out; answers how many.
@@ -178,10 +167,10 @@ pub fn instance_coords(
     if out.len() < usize::from(count) {
         return Err(Refusal::Room);
     }
+    let coord = |i| value_coord(fvar, table, font, avar, part, i);
     if count <= 32 {
-        return few_coords(fvar, table, font, avar, part, out);
+        few_coords(coord, count, out)
+    } else {
+        many_coords(coord, count, out)
     }
-    first_pass(fvar, table, font, avar, part)?;
-    write_coords(fvar, table, font, avar, part, out);
-    Ok(count)
 }

@@ -1,5 +1,4 @@
 -- `axes::avar::pair_at` meets its contract. Assumes nothing.
-use mathlib.Core.Path.{refl}
 use native.Mathlib.Omega.{arith}
 use Rattle.readers.proofs.Reading.{answered}
 use Rattle.readers.specs.Reading.{unsigned_at, signed_at}

@@ -1,6 +1,6 @@
 -- `axes::avar::segment_map` meets its contract. Assumes nothing.
 use mathlib.Core.Path.{◌≡◌}
-use Prim.Native.Nat.{◌+◌, ◌-◌, ◌*◌, ◌≤◌}
+use Prim.Native.Nat.{◌+◌, ◌*◌, ◌≤◌}
 use Rattle.readers.specs.Reading.{run}
 use Rattle.readers.specs.Walk.{walk}
 use Rattle.opentype.specs.Avar.{map_turn, map_at, segment_map}

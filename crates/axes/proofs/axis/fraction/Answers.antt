@@ -1,7 +1,6 @@
 -- `axes::axis::fraction` meets its contract. Assumes nothing.
 use mathlib.Core.Path.{sym, ap, ◌∙◌}
 use Rattle.readers.specs.Outcome.{value}
-use Rattle.opentype.specs.Axis.{fraction}
 use Rattle.axes.proofs.Order.{less}
 use Rattle.axes.proofs.Quotient.{part_fraction}
 use Rattle.axes.proofs.axis.fraction.Goals as goal

@@ -1,8 +1,7 @@
 -- `axes::axis::signed_fraction` meets its contract. Assumes nothing.
-use mathlib.Core.Path.{◌≡◌, sym, ap, ◌∙◌}
+use mathlib.Core.Path.{◌≡◌, sym, ◌∙◌}
 use mathlib.Core.Bool.{false, true≢false, ◌&&◌, ◌||◌}
 use Rattle.numbers.specs.Numbers.{unlike}
-use Rattle.readers.specs.Outcome.{value}
 use Rattle.opentype.specs.Axis.{is_least, fraction}
 use Rattle.axes.proofs.Order.{least, negative}
 use Rattle.axes.proofs.Quotient.{quotient_refused, quotient_signed}
@@ -26,27 +25,27 @@ returns-then-lt c =
     (elim c.if-below.branch [
       | then-below w ↦ rw w.if-below.true
       | else-below w ↦
-        rw (w.if-below.false, ← (rw negative at w.lt.ensures), ← (rw negative at w.lt-else-below.ensures)) (sym w.value-is ∙ c.if-lt.true)
+          rw (w.if-below.false, ← (rw negative at w.lt.ensures), ← (rw negative at w.lt-else-below.ensures)) (sym w.value-is ∙ c.if-lt.true)
     ])
 
 pub returns : goal.returns
 returns c =
     let args = c.args in
     let fits : (is_least c.div-r.result.0 && (args.below || unlike args.n.0 args.d.0)) ≡ false =
-        elim c.else-eq-3.branch [
-          | else-eq-3-via-then-eq-3+else-lt w ↦
-            (elim w.if-below.branch [
-              | then-below v ↦ absurd (true≢false (sym v.if-below.true ∙ sym v.value-is ∙ w.if-lt.false))
-              | else-below v ↦
+    elim c.else-eq-3.branch [
+      | else-eq-3-via-then-eq-3+else-lt w ↦
+          (elim w.if-below.branch [
+            | then-below v ↦ absurd (true≢false (sym v.if-below.true ∙ sym v.value-is ∙ w.if-lt.false))
+            | else-below v ↦
                 rw (
                   sym (rw least at c.eq-2.ensures) ∙ w.if-eq-3.true,
                   v.if-below.false,
                   ← (rw negative at v.lt.ensures),
                   ← (rw negative at v.lt-else-below.ensures),
                 ) (sym v.value-is ∙ w.if-lt.false)
-            ])
-          | else-eq-3-via-else-eq-3 w ↦ rw (sym (rw least at c.eq-2.ensures) ∙ w.if-eq-3.false)
-        ] in
+          ])
+      | else-eq-3-via-else-eq-3 w ↦ rw (sym (rw least at c.eq-2.ensures) ∙ w.if-eq-3.false)
+    ] in
     rw (c.signed.ensures, c.div-r.ensures)
     (quotient_signed args.below args.n.0 args.d.0
     (sym (rw least at c.eq.ensures) ∙ c.if-eq.false)

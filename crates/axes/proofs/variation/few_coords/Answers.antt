@@ -1,37 +1,53 @@
 -- `axes::variation::few_coords` meets its contract. The loop's invariant: the coordinates that are left give the count, and the list has those so far.
 -- Assumes nothing.
-use mathlib.Core.Path.{refl, sym, ◌∙◌}
+use Prim.Native.Nat.{ℕ}
+use mathlib.Core.Path.{◌≡◌, refl, sym, ◌∙◌}
 use native.Mathlib.Omega.{arith}
+use lib.IntN.{ℤ}
 use mir.Syntax.{w16}
 use mir.ValLaws.{to_z-of_z}
+use Rattle.readers.specs.Outcome.{Outcome, value}
+use Rattle.readers.specs.Answers.{refusal}
 use Rattle.readers.proofs.Walk.{turned, ended}
 use Rattle.readers.proofs.Lent.{fill_none, fill_more}
 use Rattle.opentype.specs.Variation.{coord_turn, passed, coords_in}
+use Rattle.axes.specs.AxisAnswers.{Answers}
 use Rattle.axes.proofs.Coords.{onward_coord, halt_coord, coord_is, copied}
 use Rattle.axes.proofs.Exits.{exited}
+use Rattle.axes.proofs.variation.few_coords.Given as given
 use Rattle.axes.proofs.variation.few_coords.Goals as goal
 
 pub loop-i-init : goal.loop-i-init
 unfolding passed
-loop-i-init c = (refl, sym (fill_none _ _))
+loop-i-init g c = λ of h. (refl, sym (fill_none _ _))
 
 pub returns-in_err-coords : goal.returns-in_err-coords
 unfolding coords_in coord_turn
-returns-in_err-coords c =
-    let e = turned _ _ _ _ _ _ _ c.loop-i.invariant.0 c.loop-i-test.true (halt_coord _ _ c.value_coord.ensures c.in_err-coords.was) in
-    rw (exited _ c.from_residual.ensures.1) (record { count = e; list = rw (← e) })
+returns-in_err-coords g c =
+    let e : (of : ℕ → Outcome ℤ) → Answers (given.F-post g c.args.coord) of → refusal c.in_err-coords.field-0.0 ≡ passed of c.args.count =
+    λ of h. turned _ _ _ _ _ _ _ (c.loop-i.invariant of h).0 c.loop-i-test.true (halt_coord _ _ (h _ _ c.coord.ensures) c.in_err-coords.was) in
+    record {
+      count = λ of h. rw (exited _ c.from_residual.ensures.1) (e of h);
+      list = λ of h. rw (← e of h);
+    }
 
 pub loop-i-preserved : goal.loop-i-preserved
 unfolding coord_turn
-loop-i-preserved c = (
-  turned _ _ _ _ _ _ _ c.loop-i.invariant.0 c.loop-i-test.true (onward_coord _ _ _ c.value_coord.ensures c.in_ok-coords.was refl),
-  rw c.from.ensures (fill_more _ _ _ _ _ c.loop-i.invariant.1 (to_z-of_z w16 _ (record { sfits = omega arith }) ∙ coord_is c.value_coord.ensures c.in_ok-coords.was)),
-)
+loop-i-preserved g c = λ of h.
+    let so_far = c.loop-i.invariant of h in
+    let at = h _ _ c.coord.ensures in (
+      turned _ _ _ _ _ _ _ so_far.0 c.loop-i-test.true (onward_coord _ _ _ at c.in_ok-coords.was refl),
+      rw c.from.ensures (fill_more _ _ _ _ _ so_far.1 (to_z-of_z w16 _ (record { sfits = omega arith }) ∙ coord_is at c.in_ok-coords.was)),
+    )
 
 pub returns : goal.returns
 unfolding coords_in
-returns c =
-    let l = c.loop-i in
+returns g c =
     let end = c.loop-i-test.false in
-    let e = ended _ _ _ _ _ _ _ l.invariant.0 end refl in
-    record { count = e; list = rw (← e, c.copy_from_slice.ensures.after, c.from-n.ensures) (copied _ _ _ _ _ (omega arith) end (omega arith) l.invariant.1) }
+    let e : (of : ℕ → Outcome ℤ) → Answers (given.F-post g c.args.coord) of → value c.args.count ≡ passed of c.args.count =
+    λ of h. ended _ _ _ _ _ _ _ (c.loop-i.invariant of h).0 end refl in
+    record {
+      count = e;
+      list = λ of h.
+          rw (← e of h, c.copy_from_slice.ensures.after, c.from-n.ensures) (copied _ _ _ _ _ (omega arith) end (omega arith) (c.loop-i.invariant of h).1);
+    }

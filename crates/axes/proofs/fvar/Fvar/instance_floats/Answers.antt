@@ -11,7 +11,7 @@ use Rattle.axes.proofs.fvar.Fvar.instance_floats.Goals as goal
 
 pub returns-in_err-values : goal.returns-in_err-values
 unfolding floats_in
-returns-in_err-values c = 
+returns-in_err-values c =
     let e = floats_refused _ _ _ (length c.args.out.now) c.in_err-values.ensures.part in
     rw (exited _ c.from_residual.ensures.1) (record { count = e; list = rw (← e) })
 

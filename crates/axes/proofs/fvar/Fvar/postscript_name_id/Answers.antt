@@ -8,7 +8,7 @@ use Rattle.std.specs.Bool.{then_some}
 use Rattle.readers.specs.Reading.{unsigned_at}
 use Rattle.readers.specs.Outcome.{value_or}
 use Rattle.readers.proofs.Reading.{took, stop, answered}
-use Rattle.opentype.specs.Fvar.{NameID, absent, named, post_script_name_id}
+use Rattle.opentype.specs.Fvar.{absent, named, post_script_name_id}
 use Rattle.axes.specs.FvarAnswers.{name_of}
 use Rattle.axes.proofs.Exits.{some_ok, none_err}
 use Rattle.axes.proofs.fvar.Fvar.postscript_name_id.Goals as goal

@@ -150,20 +150,13 @@ module _ (table : List ℕ) (header : Header) where
     tag_gone n e = no_match (run table (axis header i)) (λ a q s. true≢false (ap readable (sym (axis_tag_read i a q) ∙ sym e)))
 
     -- The same of the code's test of what it read.
-    module _ (e : Refusal → Refusal → Bool) (r : Result ℕ Refusal) (p : outcome r ≡ run table (unsigned_at 4 (axis_start i))) where
-      pub tag_same : result_eq eqb e r (Ok tag) ≡ true → value tag ≡ run table (unsigned_at 4 (axis_start i))
-      tag_same q = same r p q
-        where
-          same : (r : Result ℕ Refusal) → outcome r ≡ run table (unsigned_at 4 (axis_start i)) → result_eq eqb e r (Ok tag) ≡ true → value tag ≡ run table (unsigned_at 4 (axis_start i))
-          same (Ok t) p q = rw (← eqb-true t tag q) p
-          same (Err n) p q = absurd (true≢false (sym q))
+    pub tag_same : (e : Refusal → Refusal → Bool) (r : Result ℕ Refusal) → outcome r ≡ run table (unsigned_at 4 (axis_start i)) → result_eq eqb e r (Ok tag) ≡ true → value tag ≡ run table (unsigned_at 4 (axis_start i))
+    tag_same e (Ok t) p q = rw (← eqb-true t tag q) p
+    tag_same e (Err n) p q = absurd (true≢false (sym q))
 
-      pub tag_differs : result_eq eqb e r (Ok tag) ≡ false → matches (run table (axis header i)) tag ≡ false
-      tag_differs q = differs r p q
-        where
-          differs : (r : Result ℕ Refusal) → outcome r ≡ run table (unsigned_at 4 (axis_start i)) → result_eq eqb e r (Ok tag) ≡ false → matches (run table (axis header i)) tag ≡ false
-          differs (Ok t) p q = tag_other t p (eqb-false t tag q)
-          differs (Err n) p q = tag_gone (number_of n) p
+    pub tag_differs : (e : Refusal → Refusal → Bool) (r : Result ℕ Refusal) → outcome r ≡ run table (unsigned_at 4 (axis_start i)) → result_eq eqb e r (Ok tag) ≡ false → matches (run table (axis header i)) tag ≡ false
+    tag_differs e (Ok t) p q = tag_other t p (eqb-false t tag q)
+    tag_differs e (Err n) p q = tag_gone (number_of n) p
 
   -- Where the axis at i is cut, the search from i on finds nothing.
   none_after : (tag k i : ℕ) (d : Done) → readable (run table (axis header i)) ≡ false → turns (tag_turn table header tag) (λ d. refused 4) k i d ≡ refused 4

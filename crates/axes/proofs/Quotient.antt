@@ -1,11 +1,11 @@
 -- When a quotient is -2^31, and the tests of a number's sign. Assumes nothing.
 use mathlib.Core.Path.{◌≡◌, refl, sym, ◌∙◌}
-use mathlib.Core.Bool.{Bool, true, false, cond, not, ◌&&◌, ◌||◌, true≢false}
-use Prim.Native.Nat.{ℕ, zero, suc, ◌+◌, ◌-◌, ◌*◌, ◌/◌, ◌%◌, ◌^◌, ◌≤◌, ◌<◌, zero-le}
+use mathlib.Core.Bool.{Bool, true, false, cond, ◌&&◌, ◌||◌, true≢false}
+use Prim.Native.Nat.{ℕ, zero, suc, ◌+◌, ◌-◌, ◌*◌, ◌/◌, ◌%◌, ◌≤◌, ◌<◌, zero-le}
 use native.Mathlib.Omega.{arith}
 use lib.IntN.{ℤ, pos, negsuc, nat_abs}
 use lib.Dec.{eqb, ltb}
-use lib.Signed.{mag, lt_z}
+use lib.Signed.{lt_z}
 use mir.Syntax.{w32}
 use mir.Val.{to_z}
 use borrow.Author.Tests.{le-ltb, eq-eqb, ne_eqb, eqb-true, eqb-false, ltb-true, ltb-false}
@@ -47,15 +47,6 @@ quotient_lt n d = go (eqb d 0)
 pub least_over : (n d : ℤ) → is_least (over n d) ≡ eqb (quotient (nat_abs n * 65536) (nat_abs d)) 0x8000_0000
 unfolding over
 least_over n d = least_sign (unlike n d) (quotient (nat_abs n * 65536) (nat_abs d)) (quotient_lt (nat_abs n * 65536) (nat_abs d))
-
--- What is not above the smallest 32-bit number is that number.
-pub least_test : (x : ℤ) → mag x < 2 ^ 31 → not (lt_z (negsuc 0x7fff_ffff) x) ≡ is_least x
-least_test (pos n) h = refl
-least_test (negsuc n) h = go (ltb n 0x7fff_ffff) refl
-  where
-    go : (t : Bool) → ltb n 0x7fff_ffff ≡ t → not t ≡ eqb n 0x7fff_ffff
-    go true e = sym (ne_eqb n 0x7fff_ffff (λ p. omega (arith, ltb-true n 0x7fff_ffff e)))
-    go false e = sym (eq-eqb n 0x7fff_ffff (omega (arith, ltb-false n 0x7fff_ffff e)))
 
 -- Below 0.
 pub neg_test : (x : ℤ) → lt_z x (pos 0) ≡ is_neg x

@@ -85,34 +85,36 @@ impl VarAxis {
 
 // A difference over a difference, with the sign changed below default. Where min, default and max are in order, neither has a sign and the
 // quotient is at most 1: then nothing is refused, and the division is all there is to do.
-fn fraction(below: bool, n: Fixed, d: Fixed) -> Result<Fixed, Refusal>
-    ensures { outcome_fixed result ≡ fraction below n.0 d.0 }
+fn fraction(below: bool, numerator: Fixed, denominator: Fixed) -> Result<Fixed, Refusal>
+    ensures { outcome_fixed result ≡ fraction below numerator.0 denominator.0 }
 {
-    if n < Fixed::ZERO || d < n {
-        return signed_fraction(below, n, d);
+    if numerator < Fixed::ZERO || denominator < numerator {
+        return signed_fraction(below, numerator, denominator);
     }
-    Ok(signed(below, n / d))
+    Ok(signed(below, numerator / denominator))
 }
 
 // The same of any two differences; refused where swash's arithmetic stops.
 // With either sign, the quotient's bits are 2^31 just where it is -2^31.
-fn signed_fraction(below: bool, n: Fixed, d: Fixed) -> Result<Fixed, Refusal>
-    ensures { outcome_fixed result ≡ fraction below n.0 d.0 }
+fn signed_fraction(below: bool, numerator: Fixed, denominator: Fixed) -> Result<Fixed, Refusal>
+    ensures { outcome_fixed result ≡ fraction below numerator.0 denominator.0 }
 {
-    if n == Fixed::MIN || d == Fixed::MIN {
+    if numerator == Fixed::MIN || denominator == Fixed::MIN {
         return Err(Refusal::Arithmetic);
     }
-    let r = n / d;
-    if r == Fixed::MIN && (below || (n < Fixed::ZERO) != (d < Fixed::ZERO)) {
+    let quotient = numerator / denominator;
+    if quotient == Fixed::MIN
+        && (below || (numerator < Fixed::ZERO) != (denominator < Fixed::ZERO))
+    {
         return Err(Refusal::Arithmetic);
     }
-    Ok(signed(below, r))
+    Ok(signed(below, quotient))
 }
 
-fn signed(below: bool, r: Fixed) -> Fixed
-    ensures { result.0 ≡ cond below (negated r.0) r.0 }
+fn signed(below: bool, quotient: Fixed) -> Fixed
+    ensures { result.0 ≡ cond below (negated quotient.0) quotient.0 }
 {
-    if below { -r } else { r }
+    if below { -quotient } else { quotient }
 }
 
 // Held to -1..1.

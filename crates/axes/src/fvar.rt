@@ -1,6 +1,7 @@
-// fvar: header, axes, instances (swash's `Fvar`). The header is taken once, by value; each function is lent the table beside it.
+// fvar: header, axes, instances (swash's `Fvar`). The header is taken once, by value; each function is lent the table beside it: over a struct
+// that held the table, the theorems of one answer (`proofs/FvarOne.antt`) would have no plain statement.
 ghost use Rattle.std.specs.Prelude.{◌+◌, ◌*◌, ◌^◌, ◌<◌, ◌≡◌, length, IfOk};
-ghost use Rattle.readers.specs.Reading.{run, unsigned_at};
+ghost use Rattle.readers.specs.Reading.{run};
 ghost use Rattle.readers.specs.Answers.{outcome, outcome_as, outcome_fixed};
 ghost use Rattle.opentype.specs.Fvar.{header_of, field_at, axis_record, axis, axis_by_tag, instance_start, instance_record, post_script_name_id, instance, instance_values, instance_value};
 ghost use Rattle.axes.specs.FvarAnswers.{header, axis_outcome, name_of, instance_outcome, record_outcome};
@@ -96,18 +97,12 @@ impl Fvar {
         axis_at(table, index, self.axis_start(index))
     }
 
-    fn tag_at(self, table: &[u8], index: u16) -> Result<u32, Refusal>
-        ensures { outcome result ≡ run table.now (unsigned_at 4 ((header self).axes_array_offset + index * (header self).axis_size)) }
-    {
-        read(table, self.axis_start(index))
-    }
-
     // The first axis whose tag's four bytes match, if all of it is there: no axis after one that is cut could be read.
     pub fn get_axis_by_tag(self, table: &[u8], tag: u32) -> Result<VarAxis, Refusal>
         ensures { axis_outcome result ≡ axis_by_tag table.now (header self) tag }
     {
         for i in 0..self.axis_count {
-            if self.tag_at(table, i) == Ok(tag) {
+            if read(table, self.axis_start(i)) == Ok(tag) {
                 return self.get_axis(table, i).or(Err(Refusal::Tag));
             }
         }
@@ -119,6 +114,7 @@ impl Fvar {
         ensures { axis_outcome result ≡ axis_by_tag table.now (header self) tag }
     {
         for i in 0..self.axis_count {
+            // nested: where the `let` of a chain fails, no proof is told that it did
             if let Ok(axis) = self.get_axis(table, i) {
                 if axis.tag == tag {
                     return Ok(axis);

@@ -1,4 +1,5 @@
-// Coordinate lists: from settings, and for an instance (swash's variation.rs).
+// Coordinate lists: from settings, and for an instance (swash's variation.rs). The header and its table, the font and its avar stay parameters:
+// over a struct that held the references, the theorems of one answer (`proofs/VariationOne.antt`) would have no plain statement.
 ghost use Rattle.std.specs.Prelude.{◌≡◌, ◌≤◌, ℕ, ℤ, pos, length};
 ghost use Rattle.readers.specs.Outcome.{Outcome, value_or};
 ghost use Rattle.readers.specs.Reading.{run};
@@ -43,8 +44,8 @@ fn few_coords<F: Fn(u16) -> Result<F2Dot14, Refusal>>(
     for i in 0..count {
         coords[usize::from(i)] = coord(i)?.0;
     }
-    let n = usize::from(count);
-    out[..n].copy_from_slice(&coords[..n]);
+    let len = usize::from(count);
+    out[..len].copy_from_slice(&coords[..len]);
     Ok(count)
 }
 

@@ -1,5 +1,5 @@
 -- `axes::axis::fraction` meets its contract. Assumes nothing.
-use mathlib.Core.Path.{sym, ap, ◌∙◌}
+use mathlib.Core.Path.{sym, ap}
 use Rattle.readers.specs.Outcome.{value}
 use Rattle.axes.proofs.Order.{less}
 use Rattle.axes.proofs.Quotient.{part_fraction}
@@ -7,5 +7,5 @@ use Rattle.axes.proofs.axis.fraction.Goals as goal
 
 pub returns : goal.returns
 returns c =
-    let small = part_fraction c.args.below c.args.n.0 c.args.d.0 (sym (rw less at c.lt.ensures) ∙ c.if-lt.false) (sym (rw less at c.lt-else-lt.ensures) ∙ c.if-lt-2.false) in
+    let small = part_fraction c.args.below c.args.numerator.0 c.args.denominator.0 (sym (rw less at c.if-lt.ensures)) (sym (rw less at c.if-lt-2.ensures)) in
     rw (small, ← c.div.ensures) (ap value c.signed.ensures)

@@ -12,42 +12,41 @@ pub returns-then-eq : goal.returns-then-eq
 unfolding fraction
 returns-then-eq c =
     elim c.then-eq.branch [
-      | then-eq-via-then-eq w ↦ rw (sym (rw least at c.eq.ensures) ∙ w.if-eq.true)
-      | then-eq-via-else-eq+then-eq-2 w ↦ rw (sym (rw least at c.eq.ensures) ∙ w.if-eq.false, sym (rw least at w.eq-else-eq.ensures) ∙ w.if-eq-2.true)
+      | then-eq-via-then-eq w ↦ rw (sym (rw least at w.if-eq.ensures))
+      | then-eq-via-else-eq+then-eq-2 w ↦ rw (sym (rw least at w.if-eq.ensures), sym (rw least at w.if-eq-2.ensures))
     ]
 
 pub returns-then-lt : goal.returns-then-lt
 returns-then-lt c =
-    quotient_refused c.args.below c.args.n.0 c.args.d.0
-    (sym (rw least at c.eq.ensures) ∙ c.if-eq.false)
-    (sym (rw least at c.eq-else-eq.ensures) ∙ c.if-eq-2.false)
-    (rw (← c.div-r.ensures) (sym (rw least at c.eq-2.ensures) ∙ c.if-eq-3.true))
+    quotient_refused c.args.below c.args.numerator.0 c.args.denominator.0
+    (sym (rw least at c.if-eq.ensures))
+    (sym (rw least at c.if-eq-2.ensures))
+    (rw (← c.div-quotient.ensures) (sym (rw least at c.if-eq-3.ensures)))
     (elim c.if-below.branch [
       | then-below w ↦ rw w.if-below.true
-      | else-below w ↦
-          rw (w.if-below.false, ← (rw negative at w.lt.ensures), ← (rw negative at w.lt-else-below.ensures)) (sym w.value-is ∙ c.if-lt.true)
+      | else-below w ↦ rw (w.if-below.false, ← (rw negative at w.lt.ensures), ← (rw negative at w.lt-else-below.ensures)) (sym w.value-is ∙ c.if-lt.true)
     ])
 
 pub returns : goal.returns
 returns c =
     let args = c.args in
-    let fits : (is_least c.div-r.result.0 && (args.below || unlike args.n.0 args.d.0)) ≡ false =
+    let fits : (is_least c.div-quotient.result.0 && (args.below || unlike args.numerator.0 args.denominator.0)) ≡ false =
     elim c.else-eq-3.branch [
       | else-eq-3-via-then-eq-3+else-lt w ↦
           (elim w.if-below.branch [
             | then-below v ↦ absurd (true≢false (sym v.if-below.true ∙ sym v.value-is ∙ w.if-lt.false))
             | else-below v ↦
                 rw (
-                  sym (rw least at c.eq-2.ensures) ∙ w.if-eq-3.true,
+                  sym (rw least at w.if-eq-3.ensures),
                   v.if-below.false,
                   ← (rw negative at v.lt.ensures),
                   ← (rw negative at v.lt-else-below.ensures),
                 ) (sym v.value-is ∙ w.if-lt.false)
           ])
-      | else-eq-3-via-else-eq-3 w ↦ rw (sym (rw least at c.eq-2.ensures) ∙ w.if-eq-3.false)
+      | else-eq-3-via-else-eq-3 w ↦ rw (sym (rw least at w.if-eq-3.ensures))
     ] in
-    rw (c.signed.ensures, c.div-r.ensures)
-    (quotient_signed args.below args.n.0 args.d.0
-    (sym (rw least at c.eq.ensures) ∙ c.if-eq.false)
-    (sym (rw least at c.eq-else-eq.ensures) ∙ c.if-eq-2.false)
-    (rw (← c.div-r.ensures) fits))
+    rw (c.signed.ensures, c.div-quotient.ensures)
+    (quotient_signed args.below args.numerator.0 args.denominator.0
+    (sym (rw least at c.if-eq.ensures))
+    (sym (rw least at c.if-eq-2.ensures))
+    (rw (← c.div-quotient.ensures) fits))

@@ -49,5 +49,5 @@ returns g c =
     record {
       count = e;
       list = λ of h.
-          rw (← e of h, c.copy_from_slice.ensures.after, c.from-n.ensures) (copied _ _ _ _ _ (omega arith) end (omega arith) (c.loop-i.invariant of h).1);
+          rw (← e of h, c.copy_from_slice.ensures.after, c.from-len.ensures) (copied _ _ _ _ _ (omega arith) end (omega arith) (c.loop-i.invariant of h).1);
     }

@@ -1,5 +1,6 @@
 -- `axes::fvar::Fvar::get_axis_by_tag` meets its contract. Assumes nothing.
 use mathlib.Core.Path.{refl, ap, sym, ◌∙◌}
+use Rattle.readers.specs.Reading.{unsigned_at}
 use Rattle.readers.proofs.Walk.{turned, ended}
 use Rattle.opentype.specs.Fvar.{axis_by_tag}
 use Rattle.axes.specs.FvarAnswers.{header, axis_outcome}
@@ -11,16 +12,18 @@ unfolding axis_by_tag
 loop-i-init c = refl
 
 pub returns-then-eq : goal.returns-then-eq
+unfolding unsigned_at
 returns-then-eq c =
     let table = c.args.table.now in
     let header = header c.args.self in
-    let same = tag_same table header _ _ _ c.tag_at.result c.tag_at.ensures (sym c.eq.ensures ∙ c.if-eq.true) in
+    let same = tag_same table header _ _ _ c.read.result (rw c.axis_start.ensures.0 at c.read.ensures) (sym c.eq.ensures ∙ c.if-eq.true) in
     ap axis_outcome c.or.ensures ∙ found_or table header _ _ c.loop-i-test.true c.get_axis.result c.get_axis.ensures same ∙ c.loop-i.invariant
 
 pub loop-i-preserved : goal.loop-i-preserved
+unfolding unsigned_at
 loop-i-preserved c =
     turned _ _ _ _ _ _ _ c.loop-i.invariant c.loop-i-test.true
-    (tag_miss _ _ _ _ _ _ (tag_differs c.args.table.now (header c.args.self) _ _ _ c.tag_at.result c.tag_at.ensures (sym c.eq.ensures ∙ c.if-eq.false)))
+    (tag_miss _ _ _ _ _ _ (tag_differs c.args.table.now (header c.args.self) _ _ _ c.read.result (rw c.axis_start.ensures.0 at c.read.ensures) (sym c.eq.ensures ∙ c.if-eq.false)))
 
 pub returns : goal.returns
 returns c = ended _ _ _ _ _ _ _ c.loop-i.invariant c.loop-i-test.false refl

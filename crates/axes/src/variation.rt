@@ -1,12 +1,8 @@
 // Coordinate lists: from settings, and for an instance (swash's variation.rs). The header and its table, the font and its avar stay parameters:
 // over a struct that held the references, the theorems of one answer (`proofs/VariationOne.antt`) would have no plain statement.
-ghost use Rattle.std.specs.Prelude.{◌≡◌, ◌≤◌, ℕ, ℤ, pos, length};
-ghost use Rattle.readers.specs.Outcome.{Outcome, value_or};
-ghost use Rattle.readers.specs.Reading.{run};
-ghost use Rattle.readers.specs.Lent.{fill};
-ghost use Rattle.readers.specs.Answers.{outcome, outcome_as, outcome_f2_dot14};
-ghost use Rattle.opentype.specs.Axis.{no_axis};
-ghost use Rattle.opentype.specs.Fvar.{axis};
+ghost use Rattle.std.specs.Prelude.{◌≡◌, ◌≤◌, ℕ, ℤ, length};
+ghost use Rattle.readers.specs.Outcome.{Outcome};
+ghost use Rattle.readers.specs.Answers.{outcome, outcome_f2_dot14};
 ghost use Rattle.opentype.specs.Variation.{passed, coords_in, axis_coord, setting_coord, settings_count, settings_coords, value_coord, instance_count, instance_coords};
 ghost use Rattle.axes.specs.AxisAnswers.{axis_of, Answers};
 ghost use Rattle.axes.specs.FvarAnswers.{header};

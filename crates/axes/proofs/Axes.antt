@@ -6,20 +6,28 @@ use mathlib.Core.Logic.{◌≢◌}
 use mathlib.Core.List.{List}
 use native.Mathlib.Nat.{mul-le-mul_right}
 use native.Mathlib.Omega.{arith}
-use borrow.Author.Tests.{lt-leb, lt-ltb, eq-eqb, ne_eqb, ltb-true, leb-true, leb-false}
-use lib.Dec.{leb, ltb}
-use lib.IntN.{pos}
+use borrow.Author.Tests.{lt-leb, lt-ltb, eq-eqb, ne_eqb, eqb-true, eqb-false, ltb-true, leb-true, leb-false}
+use lib.Dec.{eqb, leb, ltb}
 use lib.ListN.{length}
 use mir.Syntax.{w32}
 use mir.Val.{to_z}
-use Rattle.readers.specs.Outcome.{Outcome, value, refused, unless, value_or}
-use Rattle.readers.specs.Reading.{Done, big_endian, unsigned_at, signed_at, run}
+use Rattle.std.specs.Prelude.{Result, Ok, Err}
+use Rattle.std.specs.Result.{result_eq, result_or}
+use Rattle.readers.specs.Answers.{number_of, outcome}
+use Rattle.readers.specs.declared.Refusal.{Refusal}
+use Rattle.readers.specs.declared.Refusal.TheVariants.{Tag}
+use Rattle.readers.specs.Outcome.{Outcome, value, refused, unless}
+use Rattle.readers.specs.Reading.{Done, done, big_endian, unsigned_at, signed_at, run}
 use Rattle.readers.specs.Walk.{turns, walk}
 use Rattle.readers.proofs.Bytes.{present, missing, whole}
 use Rattle.readers.proofs.Reading.{answered}
 use Rattle.opentype.specs.Axis.{Axis}
+use Rattle.axes.specs.AxisAnswers.{axis_of}
+use Rattle.axes.specs.FvarAnswers.{axis_outcome}
+use Rattle.axes.specs.declared.axis.VarAxis.{VarAxis}
 use Rattle.opentype.specs.Fvar.{Header, axis_record, axis, matches, tag_turn}
 use Rattle.readers.proofs.Passed.{cut_later, test_held}
+use Rattle.readers.proofs.Walk.{walk_more}
 
 -- Whether an outcome is a value.
 abbrev pub readable : {A : Type 0} → Outcome A → Bool
@@ -30,19 +38,6 @@ pub unreadable_misses : (tag : ℕ) (o : Outcome Axis) → readable o ≡ false 
 unfolding matches
 unreadable_misses tag (value a) e = absurd (true≢false e)
 unreadable_misses tag (refused n) e = refl
-
--- A read where all its bytes are there, as the code takes it.
-pub read_there : (n : ℕ) (table : List ℕ) (p : ℕ) → p + n ≤ length table → value_or 0 (run table (unsigned_at n p)) ≡ big_endian n table p
-read_there n table p h = rw (← whole n table p _ h refl)
-
--- Four bytes that are not there are 0, with or without a sign.
-pub signed_or_zero : (table : List ℕ) (p : ℕ) → to_z w32 (value_or 0 (run table (unsigned_at 4 p))) ≡ value_or (pos 0) (run table (signed_at w32 p))
-unfolding run unsigned_at signed_at
-signed_or_zero table p = go (leb (p + 4) (length table)) (big_endian 4 table p)
-  where
-    go : (t : Bool) (x : ℕ) → to_z w32 (value_or 0 (unless t 2 (value x))) ≡ value_or (pos 0) (unless t 2 (value (to_z w32 x)))
-    go true x = refl
-    go false x = refl
 
 module _ (table : List ℕ) (i p : ℕ) where
   -- What the twenty bytes at p make.
@@ -154,6 +149,15 @@ module _ (table : List ℕ) (header : Header) where
     pub tag_gone : (n : ℕ) → refused n ≡ run table (unsigned_at 4 (axis_start i)) → matches (run table (axis header i)) tag ≡ false
     tag_gone n e = no_match (run table (axis header i)) (λ a q s. true≢false (ap readable (sym (axis_tag_read i a q) ∙ sym e)))
 
+    -- The same of the code's test of what it read.
+    pub tag_same : (e : Refusal → Refusal → Bool) (r : Result ℕ Refusal) → outcome r ≡ run table (unsigned_at 4 (axis_start i)) → result_eq eqb e r (Ok tag) ≡ true → value tag ≡ run table (unsigned_at 4 (axis_start i))
+    tag_same e (Ok t) p q = rw (← eqb-true t tag q) p
+    tag_same e (Err n) p q = absurd (true≢false (sym q))
+
+    pub tag_differs : (e : Refusal → Refusal → Bool) (r : Result ℕ Refusal) → outcome r ≡ run table (unsigned_at 4 (axis_start i)) → result_eq eqb e r (Ok tag) ≡ false → matches (run table (axis header i)) tag ≡ false
+    tag_differs e (Ok t) p q = tag_other t p (eqb-false t tag q)
+    tag_differs e (Err n) p q = tag_gone (number_of n) p
+
   -- Where the axis at i is cut, the search from i on finds nothing.
   none_after : (tag k i : ℕ) (d : Done) → readable (run table (axis header i)) ≡ false → turns (tag_turn table header tag) (λ d. refused 4) k i d ≡ refused 4
   unfolding turns
@@ -163,3 +167,9 @@ module _ (table : List ℕ) (header : Header) where
   pub search_ends : (tag i : ℕ) (d : Done) → readable (run table (axis header i)) ≡ false → walk (tag_turn table header tag) (λ d. refused 4) header.axis_count i d ≡ refused 4
   unfolding walk
   search_ends tag i d e = none_after tag (header.axis_count - i) i d e
+
+  -- What the code answers at an axis whose four bytes match: the axis, or 4 where the rest of it is cut.
+  pub found_or : (tag i : ℕ) → i < header.axis_count → (r : Result VarAxis Refusal) → axis_outcome r ≡ run table (axis header i) → value tag ≡ run table (unsigned_at 4 (axis_start i))
+      → axis_outcome (result_or r (Err Tag)) ≡ walk (tag_turn table header tag) (λ d. refused 4) header.axis_count i done
+  found_or tag i b (Ok a) p same = tag_hit tag i done _ (axis_of a) (sym p) (axis_tag_lem i (axis_of a) tag (sym p) same) ∙ sym (walk_more _ _ _ _ _ b)
+  found_or tag i b (Err n) p same = sym (search_ends tag i done (ap readable (sym p)))

@@ -1,25 +1,21 @@
 -- No second answer: for each public function of `fvar`, two answers that its contract allows are the same, and so is what it leaves in a lent list. Assumes nothing.
-use Prim.Native.Nat.{ℕ, ◌<◌}
+use Prim.Native.Nat.{ℕ}
 use mathlib.Core.Path.{◌≡◌, refl, ap, sym, ◌∙◌}
-use mathlib.Core.List.{List, [], ◌∷◌}
-use mathlib.Core.Option.{Option, none, some}
-use native.Mathlib.Omega.{arith}
-use lib.ListN.{length}
+use mathlib.Core.List.{List}
+use Rattle.std.specs.Prelude.{Result, Ok, Err, Option, Some, None, IfOk}
+use denote.Ref.{Bor}
 use Rattle.numbers.specs.One.{One, OneSeen, ◌and◌}
-use Rattle.readers.specs.Outcome.{Outcome}
-use Rattle.readers.proofs.One.{refusal_back, back, one_by, one16, one_fixed}
+use Rattle.readers.specs.Outcome.{Outcome, value, refused}
+use Rattle.readers.specs.Answers.{number_of, outcome_as}
+use Rattle.readers.specs.declared.Refusal.{Refusal}
+use Rattle.readers.proofs.One.{one_as, one_plain, one_fixed}
 use Rattle.opentype.specs.Axis.{Axis}
 use Rattle.opentype.specs.Fvar.{Header, NameID, absent, named, Instance}
-use Rattle.axes.specs.FvarAnswers.{header, axis_outcome, name_of, instance_outcome}
+use Rattle.axes.specs.AxisAnswers.{axis_of}
+use Rattle.axes.specs.FvarAnswers.{header, axis_outcome, name_of, instance_of, instance_outcome}
 use Rattle.axes.specs.declared.axis.VarAxis.{VarAxis}
 use Rattle.axes.specs.declared.fvar.Fvar.{Fvar}
-use Rattle.axes.specs.declared.fvar.AxisAnswer.{AxisAnswer}
-use Rattle.axes.specs.declared.fvar.AxisAnswer.TheVariants as A
-use Rattle.axes.specs.declared.fvar.NameId.{NameId}
-use Rattle.axes.specs.declared.fvar.NameId.TheVariants as N
 use Rattle.axes.specs.declared.fvar.VarInstance.{VarInstance}
-use Rattle.axes.specs.declared.fvar.InstanceAnswer.{InstanceAnswer}
-use Rattle.axes.specs.declared.fvar.InstanceAnswer.TheVariants as I
 use Rattle.axes.proofs.fvar.Fvar.new.Reads as new
 use Rattle.axes.proofs.fvar.Fvar.get_axis.Reads as get-axis
 use Rattle.axes.proofs.fvar.Fvar.get_axis_by_tag.Reads as get-axis-by-tag
@@ -54,30 +50,25 @@ var_axis a = record {
   max = record { 0 = a.max_value };
 }
 
-back_axis : (r : AxisAnswer) → back (λ a. A.Value (var_axis a)) A.Refused (axis_outcome r) ≡ r
-back_axis (A.Value a) = refl
-back_axis (A.Refused n) = ap A.Refused (refusal_back n)
+pub one_axis : {d : Outcome Axis} {r r' : Result VarAxis Refusal} → axis_outcome r ≡ d → axis_outcome r' ≡ d → r ≡ r'
+one_axis p q = one_as axis_of var_axis (λ a. refl) p q
 
-pub one_axis : {d : Outcome Axis} {r r' : AxisAnswer} → axis_outcome r ≡ d → axis_outcome r' ≡ d → r ≡ r'
-one_axis p q = one_by axis_outcome (λ a. A.Value (var_axis a)) A.Refused back_axis p q
+abbrev name_id : NameID → Option ℕ
+name_id absent = None
+name_id (named id) = Some id
 
-abbrev name_id : NameID → NameId
-name_id absent = N.Absent
-name_id (named id) = N.Named id
-
-name_back : (n : NameId) → name_id (name_of n) ≡ n
-name_back N.Absent = refl
-name_back (N.Named id) = refl
+name_back : (n : Option ℕ) → name_id (name_of n) ≡ n
+name_back None = refl
+name_back (Some id) = refl
 
 abbrev var_instance : Instance → VarInstance
 var_instance v = record { index = v.index; name_id = v.subfamily_name_id; postscript_name_id = name_id v.post_script_name_id }
 
-back_instance : (r : InstanceAnswer) → back (λ v. I.Value (var_instance v)) I.Refused (instance_outcome r) ≡ r
-back_instance (I.Value v) = ap (λ (n : NameId). I.Value (record { index = v.index; name_id = v.name_id; postscript_name_id = n })) (name_back v.postscript_name_id)
-back_instance (I.Refused n) = ap I.Refused (refusal_back n)
+back_instance : (v : VarInstance) → var_instance (instance_of v) ≡ v
+back_instance v = ap (λ (n : Option ℕ). record { index = v.index; name_id = v.name_id; postscript_name_id = n }) (name_back v.postscript_name_id)
 
-pub one_instance : {d : Outcome Instance} {r r' : InstanceAnswer} → instance_outcome r ≡ d → instance_outcome r' ≡ d → r ≡ r'
-one_instance p q = one_by instance_outcome (λ v. I.Value (var_instance v)) I.Refused back_instance p q
+pub one_instance : {d : Outcome Instance} {r r' : Result VarInstance Refusal} → instance_outcome r ≡ d → instance_outcome r' ≡ d → r ≡ r'
+one_instance p q = one_as instance_of var_instance back_instance p q
 
 pub new_one : One new.Post
 new_one κs a r r' s s' p q = one_header p q
@@ -97,24 +88,19 @@ get_instance_one κs a r r' s s' p q = one_instance p q
 pub instance_value_one : One instance-value.Post
 instance_value_one κs a r r' s s' p q = one_fixed p q
 
--- Where a part lies; an empty one, wherever it is, counts as nowhere (`docs/EXCEPTIONS.md`).
-abbrev pub placed : {X : Type 0} → List X → ℕ × ℕ → Option (ℕ × ℕ)
-placed [] p = none
-placed (x ∷ xs) p = some p
+-- Of a part: what it holds and where it lies; of a refusal, which it is.
+same_part : {d : Outcome (List ℕ)} (b n : ℕ) (r r' : Result (Bor (List ℕ)) Refusal) → outcome_as (λ v. v.now) r ≡ d → outcome_as (λ v. v.now) r' ≡ d
+    → IfOk r (λ v. (v.ref_ptr.0 ≡ b) × (v.ref_ptr.1 ≡ n)) → IfOk r' (λ v. (v.ref_ptr.0 ≡ b) × (v.ref_ptr.1 ≡ n))
+    → outcome_as (λ v. v.now and v.ref_ptr) r ≡ outcome_as (λ v. v.now and v.ref_ptr) r'
+same_part b n (Ok v) (Ok w) p q h k =
+    let same : v.now ≡ w.now = cc in
+    λ i. value (same i and ((h.0 ∙ sym k.0) i, (h.1 ∙ sym k.1) i))
+same_part b n (Ok v) (Err m) p q h k = cc
+same_part b n (Err m) (Ok w) p q h k = cc
+same_part b n (Err m) (Err m') p q h k = let same : number_of m ≡ number_of m' = cc in ap refused same
 
-same_place : {X : Type 0} (l l' : List X) (p p' : ℕ × ℕ) (b n : ℕ) → l ≡ l' → (0 < length l → (p.0 ≡ b) × (p.1 ≡ n)) → (0 < length l' → (p'.0 ≡ b) × (p'.1 ≡ n)) → placed l p ≡ placed l' p'
-same_place [] l' p p' b n e h k = rw (← e)
-same_place (x ∷ xs) l' p p' b n e h k =
-    let at = h (omega arith) in
-    let at' = (rw (← e) at k) (omega arith) in
-    rw (← e) (λ i. some ((at.0 ∙ sym at'.0) i, (at.1 ∙ sym at'.1) i))
-
--- Of a part: what it holds, where it lies, and the number beside it.
-pub instance_values_one : OneSeen instance-values.Post (λ r s. r.now and placed r.now r.ref_ptr and s.1.1.1.0.now)
-instance_values_one κs a r r' s s' p q =
-    let same : r.now ≡ r'.now = p.0 ∙ sym q.0 in
-    let place = same_place r.now r'.now r.ref_ptr r'.ref_ptr _ _ same p.1.1 q.1.1 in
-    cc
+pub instance_values_one : OneSeen instance-values.Post (λ r s. outcome_as (λ v. v.now and v.ref_ptr) r)
+instance_values_one κs a r r' s s' p q = same_part _ _ r r' p.0 q.0 p.1 q.1
 
 pub instance_floats_one : OneSeen instance-floats.Post (λ r s. r and s.1.1.1.0.now)
-instance_floats_one κs a r r' s s' p q = let same : r ≡ r' = one16 p.0 q.0 in cc
+instance_floats_one κs a r r' s s' p q = let same : r ≡ r' = one_plain p.0 q.0 in cc

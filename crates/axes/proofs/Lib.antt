@@ -1,4 +1,6 @@
 -- The laws that the proofs of `axes` share, by subject; the theorem of normalising; no second answer.
+pub mod Exits
+pub mod Order
 pub mod Quotient
 pub mod Maps
 pub mod Axes

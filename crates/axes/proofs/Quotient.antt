@@ -1,17 +1,17 @@
 -- When a quotient is -2^31, and the tests of a number's sign. Assumes nothing.
 use mathlib.Core.Path.{◌≡◌, refl, sym, ◌∙◌}
-use mathlib.Core.Bool.{Bool, true, false, cond, not, true≢false}
-use Prim.Native.Nat.{ℕ, zero, suc, ◌+◌, ◌-◌, ◌*◌, ◌/◌, ◌%◌, ◌^◌, ◌≤◌, ◌<◌, zero-le}
+use mathlib.Core.Bool.{Bool, true, false, cond, ◌&&◌, ◌||◌, true≢false}
+use Prim.Native.Nat.{ℕ, zero, suc, ◌+◌, ◌-◌, ◌*◌, ◌/◌, ◌%◌, ◌≤◌, ◌<◌, zero-le}
 use native.Mathlib.Omega.{arith}
 use lib.IntN.{ℤ, pos, negsuc, nat_abs}
 use lib.Dec.{eqb, ltb}
-use lib.Signed.{mag, lt_z}
+use lib.Signed.{lt_z}
 use mir.Syntax.{w32}
 use mir.Val.{to_z}
 use borrow.Author.Tests.{le-ltb, eq-eqb, ne_eqb, eqb-true, eqb-false, ltb-true, ltb-false}
 use Rattle.numbers.specs.Numbers.{wrap32, negated, is_neg, unlike, with_sign, quotient, over}
 use Rattle.numbers.proofs.Laws.{part_le}
-use Rattle.readers.specs.Outcome.{value}
+use Rattle.readers.specs.Outcome.{value, refused}
 use Rattle.opentype.specs.Axis.{is_least, fraction}
 
 -- Two tests of which each holds where the other does are one.
@@ -48,15 +48,6 @@ pub least_over : (n d : ℤ) → is_least (over n d) ≡ eqb (quotient (nat_abs 
 unfolding over
 least_over n d = least_sign (unlike n d) (quotient (nat_abs n * 65536) (nat_abs d)) (quotient_lt (nat_abs n * 65536) (nat_abs d))
 
--- What is not above the smallest 32-bit number is that number.
-pub least_test : (x : ℤ) → mag x < 2 ^ 31 → not (lt_z (negsuc 0x7fff_ffff) x) ≡ is_least x
-least_test (pos n) h = refl
-least_test (negsuc n) h = go (ltb n 0x7fff_ffff) refl
-  where
-    go : (t : Bool) → ltb n 0x7fff_ffff ≡ t → not t ≡ eqb n 0x7fff_ffff
-    go true e = sym (ne_eqb n 0x7fff_ffff (λ p. omega (arith, ltb-true n 0x7fff_ffff e)))
-    go false e = sym (eq-eqb n 0x7fff_ffff (omega (arith, ltb-false n 0x7fff_ffff e)))
-
 -- Below 0.
 pub neg_test : (x : ℤ) → lt_z x (pos 0) ≡ is_neg x
 neg_test (pos n) = le-ltb n 0 zero-le
@@ -76,3 +67,13 @@ unfolding fraction
 part_fraction below (pos n) (pos d) p q = rw (part_not_least n d (ltb-false d n q))
 part_fraction below (pos n) (negsuc d) p q = absurd (true≢false q)
 part_fraction below (negsuc n) d p q = absurd (true≢false p)
+
+-- Where neither difference is -2^31: what is refused, and what is not.
+module _ (below : Bool) (n d : ℤ) (p : is_least n ≡ false) (q : is_least d ≡ false) where
+  pub quotient_refused : is_least (over n d) ≡ true → (below || unlike n d) ≡ true → refused 5 ≡ fraction below n d
+  unfolding fraction
+  quotient_refused e f = rw (p, q, ← least_over n d, e, f)
+
+  pub quotient_signed : (is_least (over n d) && (below || unlike n d)) ≡ false → value (cond below (negated (over n d)) (over n d)) ≡ fraction below n d
+  unfolding fraction
+  quotient_signed e = rw (p, q, ← least_over n d, e)

@@ -1,15 +1,14 @@
--- The number and the values that the answers and structs of `axis` and `avar` have.
-use Rattle.readers.specs.Outcome.{Outcome, value}
-use Rattle.readers.specs.Answers.{refusal}
+-- What the answers and structs of `axis` and `avar` stand for.
+use Rattle.std.specs.Prelude.{◌≡◌, ℕ, ℤ, Result}
+use Rattle.numbers.specs.declared.F2Dot14.{F2Dot14}
+use Rattle.readers.specs.Outcome.{Outcome}
+use Rattle.readers.specs.Answers.{outcome_as, outcome_f2_dot14}
+use Rattle.readers.specs.declared.Refusal.{Refusal}
 use Rattle.opentype.specs.Axis.{Axis}
 use Rattle.opentype.specs.Avar.{SegmentMap, Pair}
 use Rattle.axes.specs.declared.axis.VarAxis.{VarAxis}
 use Rattle.axes.specs.declared.avar.SegmentMap as S
-use Rattle.axes.specs.declared.avar.MapAnswer.{MapAnswer}
-use Rattle.axes.specs.declared.avar.MapAnswer.TheVariants as M
 use Rattle.axes.specs.declared.avar.AxisValueMap.{AxisValueMap}
-use Rattle.axes.specs.declared.avar.PairAnswer.{PairAnswer}
-use Rattle.axes.specs.declared.avar.PairAnswer.TheVariants as P
 
 abbrev pub axis_of : VarAxis → Axis
 axis_of a = record {
@@ -25,13 +24,12 @@ axis_of a = record {
 abbrev pub map_of : S.SegmentMap → SegmentMap
 map_of m = record { axis_value_maps = m.start; position_map_count = m.count }
 
-abbrev pub map_outcome : MapAnswer → Outcome SegmentMap
-map_outcome (M.Value m) = value (map_of m)
-map_outcome (M.Refused n) = refusal n
+abbrev pub map_outcome : Result S.SegmentMap Refusal → Outcome SegmentMap
+map_outcome r = outcome_as map_of r
 
 abbrev pub pair_of : AxisValueMap → Pair
 pair_of p = record { from_coordinate = p.from.0; to_coordinate = p.to.0 }
 
-abbrev pub pair_outcome : PairAnswer → Outcome Pair
-pair_outcome (P.Value p) = value (pair_of p)
-pair_outcome (P.Refused n) = refusal n
+-- A call answers coordinate i as `of` has it.
+abbrev pub Answers : (ℕ → Result F2Dot14 Refusal → Type 0) → (ℕ → Outcome ℤ) → Type 0
+Answers post of = (i : ℕ) (r : Result F2Dot14 Refusal) → post i r → outcome_f2_dot14 r ≡ of i

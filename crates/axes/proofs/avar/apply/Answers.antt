@@ -1,51 +1,50 @@
 -- `axes::avar::apply` meets its contract. Assumes nothing.
 use mathlib.Core.Path.{ap, refl, sym, ◌∙◌}
-use native.Mathlib.Omega.{arith}
 use borrow.Author.Tests.{eq-eqb, ne_eqb}
 use Rattle.readers.specs.Outcome.{value}
-use Rattle.readers.proofs.Reading.{chosen, otherwise, answered, choices}
+use Rattle.readers.proofs.Reading.{chosen, otherwise, answered}
 use Rattle.readers.proofs.Walk.{run_turned, run_ended}
 use Rattle.opentype.specs.Avar.{pair_turn, no_pair, applied}
-use Rattle.axes.proofs.Maps.{took_pair, pairs}
+use Rattle.axes.proofs.Maps.{took_value}
+use Rattle.axes.proofs.Order.{less}
 use Rattle.axes.proofs.avar.apply.Goals as goal
 
 pub loop-k-init : goal.loop-k-init
 unfolding applied no_pair
-loop-k-init c = (omega arith, refl)
-
-pub returns-in-Refused : goal.returns-in-Refused
-unfolding pair_turn
-returns-in-Refused c = run_turned _ _ _ _ _ _ _ _ c.loop-k.invariant.1 c.loop-k-test.true (search pairs depth 6)
+loop-k-init c = refl
 
 pub loop-k-preserved : goal.loop-k-preserved
 unfolding pair_turn
-loop-k-preserved c = (omega arith, run_turned _ _ _ _ _ _ _ _ c.loop-k.invariant.1 c.loop-k-test.true (search (pairs, choices, sym c.lt.ensures ∙ c.if-lt.true) depth 8))
+loop-k-preserved c =
+    run_turned _ _ _ _ _ _ _ _ c.loop-k.invariant c.loop-k-test.true
+    (took_value _ _ _ _ (rw c.from.ensures at c.pair_at-pair.ensures)
+    (chosen _ _ _ _ _ (sym (rw less at c.if-lt.ensures)) refl))
 
 pub returns-then-k-eq0 : goal.returns-then-k-eq0
 unfolding pair_turn
 returns-then-k-eq0 c =
-    run_turned _ _ _ _ _ _ _ _ c.loop-k.invariant.1 c.loop-k-test.true
-    (took_pair _ _ _ _ c.pair_at.ensures c.in-Value.is
-    (otherwise _ _ _ _ _ (sym c.lt.ensures ∙ c.if-lt.false)
-    (chosen _ _ _ _ _ (sym c.lt-in-loop-k.ensures ∙ c.if-lt-2.true)
+    run_turned _ _ _ _ _ _ _ _ c.loop-k.invariant c.loop-k-test.true
+    (took_value _ _ _ _ (rw c.from.ensures at c.pair_at-pair.ensures)
+    (otherwise _ _ _ _ _ (sym (rw less at c.if-lt.ensures))
+    (chosen _ _ _ _ _ (sym (rw less at c.if-lt-2.ensures))
     (chosen _ _ _ _ _ (eq-eqb _ _ c.if-k-eq0.true) (answered _ _)))))
 
 pub returns-then-lt-2 : goal.returns-then-lt-2
 unfolding pair_turn
 returns-then-lt-2 c =
-    run_turned _ _ _ _ _ _ _ _ c.loop-k.invariant.1 c.loop-k-test.true
-    (took_pair _ _ _ _ c.pair_at.ensures c.in-Value.is
-    (otherwise _ _ _ _ _ (sym c.lt.ensures ∙ c.if-lt.false)
-    (chosen _ _ _ _ _ (sym c.lt-in-loop-k.ensures ∙ c.if-lt-2.true)
+    run_turned _ _ _ _ _ _ _ _ c.loop-k.invariant c.loop-k-test.true
+    (took_value _ _ _ _ (rw c.from.ensures at c.pair_at-pair.ensures)
+    (otherwise _ _ _ _ _ (sym (rw less at c.if-lt.ensures))
+    (chosen _ _ _ _ _ (sym (rw less at c.if-lt-2.ensures))
     (otherwise _ _ _ _ _ (ne_eqb _ _ c.if-k-eq0.false) (ap value c.between.ensures ∙ answered _ _)))))
 
-pub returns-in-loop-k : goal.returns-in-loop-k
+pub returns-else-lt-2 : goal.returns-else-lt-2
 unfolding pair_turn
-returns-in-loop-k c =
-    run_turned _ _ _ _ _ _ _ _ c.loop-k.invariant.1 c.loop-k-test.true
-    (took_pair _ _ _ _ c.pair_at.ensures c.in-Value.is
-    (otherwise _ _ _ _ _ (sym c.lt.ensures ∙ c.if-lt.false)
-    (otherwise _ _ _ _ _ (sym c.lt-in-loop-k.ensures ∙ c.if-lt-2.false) (answered _ _))))
+returns-else-lt-2 c =
+    run_turned _ _ _ _ _ _ _ _ c.loop-k.invariant c.loop-k-test.true
+    (took_value _ _ _ _ (rw c.from.ensures at c.pair_at-pair.ensures)
+    (otherwise _ _ _ _ _ (sym (rw less at c.if-lt.ensures))
+    (otherwise _ _ _ _ _ (sym (rw less at c.if-lt-2.ensures)) (answered _ _))))
 
 pub returns : goal.returns
-returns c = run_ended _ _ _ _ _ _ _ _ c.loop-k.invariant.1 c.loop-k-test.false (answered _ _)
+returns c = run_ended _ _ _ _ _ _ _ _ c.loop-k.invariant c.loop-k-test.false (answered _ _)

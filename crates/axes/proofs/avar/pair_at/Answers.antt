@@ -1,16 +1,14 @@
 -- `axes::avar::pair_at` meets its contract. Assumes nothing.
-use Rattle.readers.proofs.Reading.{numbers, ends}
+use native.Mathlib.Omega.{arith}
+use Rattle.readers.proofs.Reading.{answered}
+use Rattle.readers.specs.Reading.{unsigned_at, signed_at}
+use Rattle.readers.proofs.Bytes.{present}
 use Rattle.opentype.specs.Avar.{pair_at}
 use Rattle.axes.proofs.avar.pair_at.Goals as goal
 
-pub returns-in-Refused : goal.returns-in-Refused
-unfolding pair_at
-returns-in-Refused c = search (numbers, ends) depth 8
-
-pub returns-in-Refused-f2dot14_at : goal.returns-in-Refused-f2dot14_at
-unfolding pair_at
-returns-in-Refused-f2dot14_at c = search (numbers, ends) depth 8
-
 pub returns : goal.returns
-unfolding pair_at
-returns c = rw (c.from_f2dot14-from.ensures, c.from_f2dot14-to.ensures) (search (numbers, ends) depth 8)
+unfolding pair_at signed_at unsigned_at
+returns c =
+    present 2 _ _ _ _ (omega arith)
+    (present 2 _ _ _ _ (omega arith)
+    (rw (c.into.ensures, c.into-2.ensures, c.from_be_data.ensures, c.from_be_data-2.ensures) (answered _ _)))

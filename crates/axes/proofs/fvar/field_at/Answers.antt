@@ -1,11 +1,11 @@
 -- `axes::fvar::field_at` meets its contract. Assumes nothing.
+use mathlib.Core.Path.{ap, ◌∙◌}
+use Rattle.readers.specs.Outcome.{value_or}
+use Rattle.readers.specs.Reading.{unsigned_at}
 use Rattle.opentype.specs.Fvar.{field_at}
+use Rattle.axes.proofs.Exits.{or_value}
 use Rattle.axes.proofs.fvar.field_at.Goals as goal
 
-pub returns-in-Value : goal.returns-in-Value
-unfolding field_at
-returns-in-Value c = rw (← c.u16_at.ensures, c.in-Value.is)
-
-pub returns-in-Refused : goal.returns-in-Refused
-unfolding field_at
-returns-in-Refused c = rw (← c.u16_at.ensures, c.in-Refused.is)
+pub returns : goal.returns
+unfolding field_at unsigned_at
+returns c = c.unwrap_or.ensures ∙ or_value (λ x. x) c.read.result 0 ∙ ap (value_or 0) c.read.ensures

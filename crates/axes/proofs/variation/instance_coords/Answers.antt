@@ -1,57 +1,48 @@
 -- `axes::variation::instance_coords` meets its contract. Assumes nothing.
-use mathlib.Core.Path.{refl, sym, ap, ◌∙◌}
+use mathlib.Core.Path.{refl, ◌∙◌}
+use borrow.Author.Rules.{rules}
+use lib.ListN.{length}
 use native.Mathlib.Omega.{arith}
-use Rattle.readers.specs.Answers.{outcome16}
-use Rattle.opentype.specs.Variation.{coords_in, instance_count, instance_coords}
-use Rattle.axes.proofs.Coords.{all_passed, counted_short, counted_all}
-use Rattle.axes.proofs.Instances.{values_there, values_part, values_refused}
+use Rattle.opentype.specs.Variation.{coords_in, value_coord, instance_coords}
+use Rattle.axes.specs.FvarAnswers.{header}
+use Rattle.axes.proofs.Coords.{counted_short, counted_all, instance_refused, instance_counted}
+use Rattle.axes.proofs.Exits.{exited}
 use Rattle.axes.proofs.variation.instance_coords.Goals as goal
 
-pub returns-in-Refused-clause-count : goal.returns-in-Refused-clause-count
-unfolding instance_count
-returns-in-Refused-clause-count c = rw (values_refused _ _ _ c.instance_record.ensures c.in-Refused.is)
-
-pub returns-in-Refused-clause-list : goal.returns-in-Refused-clause-list
+pub returns-in_err-part : goal.returns-in_err-part
 unfolding instance_coords coords_in
-returns-in-Refused-clause-list c = rw (← returns-in-Refused-clause-count c)
+returns-in_err-part c =
+    let e = instance_refused _ _ _ _ _ _ c.in_err-part.ensures.part in
+    rw (exited _ c.from_residual.ensures.1) (record { count = e; list = rw (← e) })
 
-pub returns-then-out-count-clause-count : goal.returns-then-out-count-clause-count
-unfolding instance_count
-returns-then-out-count-clause-count c = rw (values_part _ _ _ c.instance_record.ensures c.in-Value.is) (counted_short _ _ _ c.if-out-count.true)
-
-pub returns-then-out-count-clause-list : goal.returns-then-out-count-clause-list
+pub returns-then-out-from : goal.returns-then-out-from
 unfolding instance_coords coords_in
-returns-then-out-count-clause-list c = rw (← returns-then-out-count-clause-count c)
-
-pub overflow_add-to : goal.overflow_add-to
-overflow_add-to c = omega (arith, values_there _ _ _ c.instance_record.ensures c.in-Value.is)
+returns-then-out-from c =
+    let e = counted_short _ _ _ (omega arith) ∙ instance_counted _ _ _ _ _ _ c.in_ok-part.ensures.part in
+    record { count = e; list = rw (← e) }
 
 pub returns-then-count-le32 : goal.returns-then-count-le32
-unfolding instance_count instance_coords
+unfolding instance_coords
 returns-then-count-le32 c =
+    let a = c.args in
+    let part = c.in_ok-part.ensures.part in
+    let of = value_coord a.table.now (header a.fvar) a.font.now a.avar c.in_ok-part.part.now in
     let few = c.few_coords.ensures in
-    rw (values_part _ _ _ c.instance_record.ensures c.in-Value.is, ← counted_all _ _ _ _ c.if-out-count.false refl) few
+    let e = counted_all of a.fvar.axis_count (length a.out.now) _ (omega arith) refl ∙ instance_counted _ _ _ _ _ _ part in
+    record {
+      count = few.count of (λ i r p. search rules) ∙ e;
+      list = rw (← e, ← part) (few.list of (λ i r p. search rules));
+    }
 
-pub returns-in-Value-first_pass-clause-count : goal.returns-in-Value-first_pass-clause-count
-unfolding instance_count
-returns-in-Value-first_pass-clause-count c =
-    rw (values_part _ _ _ c.instance_record.ensures c.in-Value.is)
-    (counted_all _ _ _ _ c.if-out-count.false (all_passed _ _ c.first_pass.ensures c.in-Value-first_pass.is))
-
-pub returns-in-Value-first_pass-clause-list : goal.returns-in-Value-first_pass-clause-list
-unfolding instance_coords coords_in
-returns-in-Value-first_pass-clause-list c =
-    rw (← returns-in-Value-first_pass-clause-count c, values_part _ _ _ c.instance_record.ensures c.in-Value.is) c.write_coords.ensures
-
-pub returns-in-Refused-first_pass-clause-count : goal.returns-in-Refused-first_pass-clause-count
-unfolding instance_count
-returns-in-Refused-first_pass-clause-count c =
-    rw (values_part _ _ _ c.instance_record.ensures c.in-Value.is)
-    (counted_all _ _ _ _ c.if-out-count.false (sym (ap outcome16 c.in-Refused-first_pass.is) ∙ c.first_pass.ensures))
-
-pub returns-in-Refused-first_pass-clause-list : goal.returns-in-Refused-first_pass-clause-list
-unfolding instance_coords coords_in
-returns-in-Refused-first_pass-clause-list c = rw (← returns-in-Refused-first_pass-clause-count c)
-
-pub slice_bounds-part-end : goal.slice_bounds-part-end
-slice_bounds-part-end c = omega (arith, values_there _ _ _ c.instance_record.ensures c.in-Value.is)
+pub returns-else-count-le32 : goal.returns-else-count-le32
+unfolding instance_coords
+returns-else-count-le32 c =
+    let a = c.args in
+    let part = c.in_ok-part.ensures.part in
+    let of = value_coord a.table.now (header a.fvar) a.font.now a.avar c.in_ok-part.part.now in
+    let many = c.many_coords.ensures in
+    let e = counted_all of a.fvar.axis_count (length a.out.now) _ (omega arith) refl ∙ instance_counted _ _ _ _ _ _ part in
+    record {
+      count = many.count of (λ i r p. search rules) ∙ e;
+      list = rw (← e, ← part) (many.list of (λ i r p. search rules));
+    }

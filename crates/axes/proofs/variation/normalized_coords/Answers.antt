@@ -1,15 +1,15 @@
--- `axes::variation::normalized_coords` meets its contract. The loop's invariant: the coordinates that are left give the count, and the list has those so far.
--- Assumes nothing.
-use mathlib.Core.Path.{refl, sym, ◌∙◌}
+-- `axes::variation::normalized_coords` meets its contract. Assumes nothing.
+use Prim.Native.Nat.{ℕ}
+use mathlib.Core.Path.{◌≡◌, ap, ◌∙◌}
+use lib.ListN.{length}
 use native.Mathlib.Omega.{arith}
-use mir.Syntax.{w16}
-use mir.ValLaws.{to_z-of_z}
+use borrow.Author.Rules.{rules}
 use borrow.Author.Tests.{eq-eqb, ne_eqb}
+use Rattle.readers.specs.Outcome.{Outcome}
 use Rattle.readers.proofs.Outcome.{unless_true, unless_false}
-use Rattle.readers.proofs.Walk.{turned, ended}
-use Rattle.readers.proofs.Lent.{fill_none, fill_more}
-use Rattle.opentype.specs.Variation.{coord_turn, coords_in, settings_count, settings_coords}
-use Rattle.axes.proofs.Coords.{onward_coord, halt_coord, coord_is, passed_as, counted_short, counted_all, copied}
+use Rattle.opentype.specs.Variation.{passed, coords_in, setting_coord, settings_count, settings_coords}
+use Rattle.axes.specs.FvarAnswers.{header}
+use Rattle.axes.proofs.Coords.{counted_short, counted_all}
 use Rattle.axes.proofs.variation.normalized_coords.Goals as goal
 
 pub returns-then-tags-values-clause-count : goal.returns-then-tags-values-clause-count
@@ -20,45 +20,23 @@ pub returns-then-tags-values-clause-list : goal.returns-then-tags-values-clause-
 unfolding settings_coords coords_in
 returns-then-tags-values-clause-list c = rw (← returns-then-tags-values-clause-count c)
 
-pub returns-then-out-count-clause-count : goal.returns-then-out-count-clause-count
+pub returns-then-out-from-clause-count : goal.returns-then-out-from-clause-count
 unfolding settings_count
-returns-then-out-count-clause-count c = unless_true _ _ _ _ (eq-eqb _ _ c.if-tags-values.false) (counted_short _ _ _ (omega arith))
+returns-then-out-from-clause-count c = unless_true _ _ _ _ (eq-eqb _ _ c.if-tags-values.false) (counted_short _ _ _ (omega arith))
 
-pub returns-then-out-count-clause-list : goal.returns-then-out-count-clause-list
+pub returns-then-out-from-clause-list : goal.returns-then-out-from-clause-list
 unfolding settings_coords coords_in
-returns-then-out-count-clause-list c = rw (← returns-then-out-count-clause-count c)
-
-pub loop-i-init : goal.loop-i-init
-unfolding settings_count
-loop-i-init c = (
-  omega arith,
-  unless_true _ _ _ _ (eq-eqb _ _ c.if-tags-values.false) (counted_all _ _ _ _ (omega arith) (passed_as _ _ _ c.coord_count-count.ensures.0)),
-  sym (fill_none _ _),
-)
-
-pub returns-in-Refused-clause-count : goal.returns-in-Refused-clause-count
-unfolding coord_turn
-returns-in-Refused-clause-count c =
-    turned _ _ _ _ _ _ _ c.loop-i.invariant.1 c.loop-i-test.true (halt_coord _ _ c.setting_coord.ensures c.in-Refused.is)
-
-pub returns-in-Refused-clause-list : goal.returns-in-Refused-clause-list
-unfolding settings_coords coords_in
-returns-in-Refused-clause-list c = rw (← returns-in-Refused-clause-count c)
-
-pub loop-i-preserved : goal.loop-i-preserved
-unfolding coord_turn
-loop-i-preserved c = (
-  omega arith,
-  turned _ _ _ _ _ _ _ c.loop-i.invariant.1 c.loop-i-test.true (onward_coord _ _ _ c.setting_coord.ensures c.in-Value.is refl),
-  fill_more _ _ _ _ _ c.loop-i.invariant.2
-      (to_z-of_z w16 _ (record { sfits = omega arith }) ∙ coord_is c.setting_coord.ensures c.in-Value.is),
-)
+returns-then-out-from-clause-list c = rw (← returns-then-out-from-clause-count c)
 
 pub returns : goal.returns
-unfolding settings_coords coords_in
+unfolding settings_count settings_coords
 returns c =
-    let l = c.loop-i in
-    let end = c.loop-i-test.false in
-    let count = c.coord_count-count in
-    let e = ended _ _ _ _ _ _ _ l.invariant.1 end refl in
-    record { count = e; list = rw (← e) (copied _ count.result _ _ c.args.out.now _ count.ensures.1 end l.invariant.2 c.copy.ensures) }
+    let a = c.args in
+    let of = setting_coord a.table.now (header a.fvar) a.font.now a.avar a.tags.now a.values.now in
+    let few = c.few_coords.ensures in
+    let e : passed of c.min-count.result ≡ settings_count a.table.now (header a.fvar) a.font.now a.avar a.tags.now a.values.now (length a.out.now) =
+    unless_true _ _ _ _ (eq-eqb _ _ c.if-tags-values.false) (counted_all _ _ _ _ (omega arith) (ap (passed of) c.min-count.ensures)) in
+    record {
+      count = few.count of (λ i r p. search rules) ∙ e;
+      list = few.list of (λ i r p. search rules) ∙ ap (λ (o : Outcome ℕ). coords_in of o a.out.now) e;
+    }

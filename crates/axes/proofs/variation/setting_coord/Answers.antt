@@ -2,10 +2,10 @@
 use Rattle.opentype.specs.Variation.{setting_coord}
 use Rattle.axes.proofs.variation.setting_coord.Goals as goal
 
-pub returns-in-Value : goal.returns-in-Value
+pub returns-in-Ok : goal.returns-in-Ok
 unfolding setting_coord
-returns-in-Value c = rw (← c.get_axis.ensures, c.in-Value.is) c.axis_coord.ensures
+returns-in-Ok c = rw (← c.get_axis.ensures, c.in-Ok.is) c.axis_coord.ensures
 
-pub returns-in-Refused : goal.returns-in-Refused
+pub returns-in-Err : goal.returns-in-Err
 unfolding setting_coord
-returns-in-Refused c = rw (← c.get_axis.ensures, c.in-Refused.is, c.from_bits.ensures)
+returns-in-Err c = rw (← c.get_axis.ensures, c.in-Err.is)

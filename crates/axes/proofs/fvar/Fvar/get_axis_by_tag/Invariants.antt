@@ -1,5 +1,4 @@
 -- `axes::fvar::Fvar::get_axis_by_tag` meets its contract. Assumes nothing.
-use Prim.Native.Nat.{◌≤◌, ◌-◌}
 use mathlib.Core.Path.{◌≡◌}
 use Rattle.readers.specs.Reading.{done}
 use Rattle.readers.specs.Walk.{walk}
@@ -9,7 +8,4 @@ use Rattle.axes.specs.FvarAnswers.{header}
 use Rattle.axes.proofs.fvar.Fvar.get_axis_by_tag.Given as goal
 
 abbrev pub invariant-loop-i : goal.invariant-loop-i
-invariant-loop-i l = (l.i ≤ l.self.axis_count) × (walk (tag_turn l.table (header l.self) l.tag) (λ d. refused 4) l.self.axis_count l.i done ≡ axis_by_tag l.table (header l.self) l.tag)
-
-abbrev pub decreases-loop-i : goal.decreases-loop-i
-decreases-loop-i l = l.self.axis_count - l.i
+invariant-loop-i l = walk (tag_turn l.table (header l.self) l.tag) (λ d. refused 4) l.self.axis_count l.i done ≡ axis_by_tag l.table (header l.self) l.tag

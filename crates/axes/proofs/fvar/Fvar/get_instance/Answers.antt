@@ -1,11 +1,12 @@
 -- `axes::fvar::Fvar::get_instance` meets its contract. Assumes nothing.
 use Rattle.opentype.specs.Fvar.{instance}
+use Rattle.axes.proofs.Exits.{exited}
 use Rattle.axes.proofs.fvar.Fvar.get_instance.Goals as goal
 
-pub returns-in-Value : goal.returns-in-Value
+pub returns-in_err-record : goal.returns-in_err-record
 unfolding instance
-returns-in-Value c = rw (← c.instance_record.ensures, c.in-Value.is, ← c.postscript_name_id-postscript_name_id.ensures)
+returns-in_err-record c = rw (exited _ c.from_residual.ensures.1, ← c.instance_record.ensures, c.in_err-record.was)
 
-pub returns-in-Refused : goal.returns-in-Refused
+pub returns : goal.returns
 unfolding instance
-returns-in-Refused c = rw (← c.instance_record.ensures, c.in-Refused.is)
+returns c = rw (← c.instance_record.ensures, c.in_ok-record.was, ← c.postscript_name_id.ensures)

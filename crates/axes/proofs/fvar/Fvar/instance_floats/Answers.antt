@@ -5,38 +5,31 @@ use lib.ListN.{length}
 use Rattle.numbers.specs.Floats.{to_float}
 use Rattle.readers.proofs.Lent.{fill_none, fill_more, fill_end}
 use Rattle.opentype.specs.Values.{floats_in}
-use Rattle.axes.proofs.Instances.{values_there, values_part, floats_counted, floats_short, floats_refused}
+use Rattle.axes.proofs.Exits.{exited}
+use Rattle.axes.proofs.Instances.{floats_counted, floats_short, floats_refused}
 use Rattle.axes.proofs.fvar.Fvar.instance_floats.Goals as goal
 
-pub returns-in-Refused : goal.returns-in-Refused
+pub returns-in_err-values : goal.returns-in_err-values
 unfolding floats_in
-returns-in-Refused c =
-    let e = floats_refused _ _ _ c.instance_record.ensures c.in-Refused.is (length c.args.out.now) in
-    record { count = e; list = rw (← e) }
+returns-in_err-values c =
+    let e = floats_refused _ _ _ (length c.args.out.now) c.in_err-values.ensures.part in
+    rw (exited _ c.from_residual.ensures.1) (record { count = e; list = rw (← e) })
 
-pub returns-then-out-count : goal.returns-then-out-count
+pub returns-then-out-from : goal.returns-then-out-from
 unfolding floats_in
-returns-then-out-count c =
-    let e = floats_short _ _ _ c.instance_record.ensures c.in-Value.is (length c.args.out.now) c.if-out-count.true in
+returns-then-out-from c =
+    let e = floats_short _ _ _ (length c.args.out.now) c.in_ok-values.ensures.part (omega arith) in
     record { count = e; list = rw (← e) }
-
-pub overflow_add-to : goal.overflow_add-to
-overflow_add-to c = omega (arith, values_there _ _ _ c.instance_record.ensures c.in-Value.is)
 
 pub loop-i-init : goal.loop-i-init
-loop-i-init c = (omega arith, sym (fill_none _ _))
+loop-i-init c = sym (fill_none _ _)
 
 pub loop-i-preserved : goal.loop-i-preserved
-loop-i-preserved c = (omega arith, fill_more _ _ _ _ _ c.loop-i.invariant.1 (c.to_f32.ensures ∙ ap to_float c.value_or_zero.ensures))
+loop-i-preserved c = rw c.from-in-loop-i.ensures (fill_more _ _ _ _ _ c.loop-i.invariant (c.into.ensures ∙ ap to_float c.value_or_zero.ensures))
 
 pub returns : goal.returns
 unfolding floats_in
 returns c =
-    let l = c.loop-i in
-    let call = c.instance_record.ensures in
-    let case = c.in-Value.is in
-    let e = floats_counted _ _ _ call case (length c.args.out.now) c.if-out-count.false in
-    record { count = e; list = rw (← e, values_part _ _ _ call case) (fill_end _ _ _ _ _ l.invariant.1 l.invariant.0 c.loop-i-test.false) }
-
-pub slice_bounds-values-end : goal.slice_bounds-values-end
-slice_bounds-values-end c = omega (arith, values_there _ _ _ c.instance_record.ensures c.in-Value.is)
+    let part = c.in_ok-values.ensures.part in
+    let e = floats_counted _ _ _ (length c.args.out.now) part (omega arith) in
+    record { count = e; list = rw (← e, ← part) (fill_end _ _ _ _ _ c.loop-i.invariant c.loop-i.auto.i-end c.loop-i-test.false) }

@@ -4,4 +4,4 @@ use Rattle.axes.proofs.fvar.Fvar.new.Goals as goal
 
 pub returns : goal.returns
 unfolding header_of
-returns c = rw (c.field_at-inst_size.ensures, c.field_at-inst_count.ensures, c.field_at-axis_size.ensures, c.field_at-axis_count.ensures, c.field_at-axis_offset.ensures)
+returns c = rw (c.field_at.ensures, c.field_at-2.ensures, c.field_at-3.ensures, c.field_at-4.ensures, c.field_at-5.ensures)

@@ -1,38 +1,40 @@
 -- `axes::fvar::Fvar::postscript_name_id` meets its contract. Assumes nothing.
-use Prim.Native.Nat.{◌+◌, ◌-◌, ◌*◌}
-use mathlib.Core.Path.{ap}
+use Prim.Native.Nat.{ℕ, ◌+◌, ◌-◌, ◌*◌}
+use mathlib.Core.Path.{◌≡◌, refl, ap, sym, ◌∙◌}
+use mathlib.Core.Bool.{Bool, true, false, cond, not}
 use native.Mathlib.Omega.{arith}
 use borrow.Author.Tests.{eq-eqb, ne_eqb}
-use Rattle.readers.specs.Outcome.{value, value_or}
-use Rattle.readers.proofs.Reading.{took16, stop16, answered}
+use Rattle.std.specs.Bool.{then_some}
+use Rattle.readers.specs.Reading.{unsigned_at}
+use Rattle.readers.specs.Outcome.{value_or}
+use Rattle.readers.proofs.Reading.{took, stop, answered}
 use Rattle.opentype.specs.Fvar.{absent, named, post_script_name_id}
+use Rattle.axes.specs.FvarAnswers.{name_of}
+use Rattle.axes.proofs.Exits.{some_ok, none_err}
 use Rattle.axes.proofs.fvar.Fvar.postscript_name_id.Goals as goal
 
-pub returns-then-at-self : goal.returns-then-at-self
+pub returns-then-at-from : goal.returns-then-at-from
 unfolding post_script_name_id
-returns-then-at-self c =
+returns-then-at-from c =
     let self = c.args.self in
-    rw (ne_eqb (4 + 4 * self.axis_count) (self.inst_size - 2) (λ e. c.if-at-self.true (omega arith)))
+    rw (ne_eqb (4 + 4 * self.axis_count) (self.inst_size - 2) (λ e. c.if-at-from.true (omega arith)))
 
-pub returns-then-id : goal.returns-then-id
-unfolding post_script_name_id
-returns-then-id c =
+pub returns-in_err-id : goal.returns-in_err-id
+unfolding post_script_name_id unsigned_at
+returns-in_err-id c =
     let self = c.args.self in
-    rw (← c.instance_start-start.ensures.0, eq-eqb (4 + 4 * self.axis_count) (self.inst_size - 2) (omega arith))
-    (ap (value_or absent) (took16 _ _ _ (value absent) c.u16_at.ensures c.in-Value.is
-    (rw (eq-eqb _ 65535 c.if-id.true) (answered _ _))))
+    let e = none_err c.read.result (sym c.ok.ensures.value ∙ c.in_err-id.was) in
+    rw (c.from_residual.ensures, ← c.instance_start-start.ensures.0, eq-eqb (4 + 4 * self.axis_count) (self.inst_size - 2) (omega arith))
+    (ap (value_or absent) (stop _ _ _ (rw c.from.ensures at c.read.ensures) e.1))
 
-pub returns-else-id : goal.returns-else-id
-unfolding post_script_name_id
-returns-else-id c =
-    let self = c.args.self in
-    rw (← c.instance_start-start.ensures.0, eq-eqb (4 + 4 * self.axis_count) (self.inst_size - 2) (omega arith))
-    (ap (value_or absent) (took16 _ _ _ (value (named _)) c.u16_at.ensures c.in-Value.is
-    (rw (ne_eqb _ 65535 c.if-id.false) (answered _ _))))
+name_chosen : (t : Bool) (id : ℕ) → name_of (then_some (not t) id) ≡ cond t absent (named id)
+name_chosen true id = refl
+name_chosen false id = refl
 
-pub returns-in-Refused : goal.returns-in-Refused
-unfolding post_script_name_id
-returns-in-Refused c =
+pub returns : goal.returns
+unfolding post_script_name_id unsigned_at
+returns c =
     let self = c.args.self in
-    rw (← c.instance_start-start.ensures.0, eq-eqb (4 + 4 * self.axis_count) (self.inst_size - 2) (omega arith))
-    (ap (value_or absent) (stop16 _ _ _ c.u16_at.ensures c.in-Refused.is))
+    rw (← c.instance_start-start.ensures.0, eq-eqb (4 + 4 * self.axis_count) (self.inst_size - 2) (omega arith), c.then_some.ensures)
+    (name_chosen _ c.in_ok-id.id
+    ∙ ap (value_or absent) (took _ _ _ _ (rw c.from.ensures at c.read.ensures) (some_ok _ (sym c.ok.ensures.value ∙ c.in_ok-id.was)) (answered _ _)))

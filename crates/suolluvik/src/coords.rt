@@ -4,7 +4,7 @@ ghost use Rattle.opentype.specs.Fvar.{header_of};
 ghost use Rattle.opentype.specs.Variation.{settings_count, settings_coords, instance_count, instance_coords};
 ghost use Rattle.suolluvik.specs.Numbered.{numbered};
 
-use crate::counts::count_value;
+use crate::answers::answered;
 use axes::fvar::Fvar;
 use axes::variation::{instance_coords, normalized_coords};
 
@@ -23,8 +23,9 @@ pub extern "C" fn suolluvik_normalized_coords(
     ensures list { out.new ≡ settings_coords fvar.now (header_of fvar.now) font.now avar tags.now values.now out.old }
 {
     let header = Fvar::new(fvar);
-    count_value(
+    answered(
         normalized_coords(header, fvar, font, avar, tags, values, out),
+        0,
         count,
     )
 }
@@ -43,5 +44,9 @@ pub extern "C" fn suolluvik_instance_coords(
     ensures list { out.new ≡ instance_coords fvar.now (header_of fvar.now) font.now avar index out.old }
 {
     let header = Fvar::new(fvar);
-    count_value(instance_coords(header, fvar, font, avar, index, out), count)
+    answered(
+        instance_coords(header, fvar, font, avar, index, out),
+        0,
+        count,
+    )
 }

@@ -5,36 +5,24 @@ ghost use Rattle.opentype.specs.Metric.{advance, bearing, metric_delta};
 ghost use Rattle.opentype.specs.Mvar.{mvar_delta};
 ghost use Rattle.suolluvik.specs.Numbered.{numbered, numbered_float};
 
-use readers::FixedAnswer;
-use store::metric::{advance_delta_fixed, float_of, sb_delta_fixed};
+use crate::answers::answered;
+use numbers::Fixed;
+use readers::Refusal;
+use store::metric::{advance_delta_fixed, sb_delta_fixed};
 use store::mvar::mvar_delta;
 
 // A delta as its raw number.
-pub(crate) fn fixed_value(delta: FixedAnswer, value: &mut i32) -> u8
+pub(crate) fn fixed_value(delta: Result<Fixed, Refusal>, value: &mut i32) -> u8
     ensures { (result, value.new) ≡ numbered (pos 0) (outcome_fixed delta) }
 {
-    match delta {
-        FixedAnswer::Value(x) => {
-            let raw = x.0;
-            *value = raw;
-            0
-        }
-        FixedAnswer::Refused(n) => {
-            *value = 0;
-            readers::number(n)
-        }
-    }
+    answered(delta.map(|x| x.0), 0, value)
 }
 
 // A delta as a float.
-pub fn float_value(delta: FixedAnswer, value: &mut f32) -> u8
+pub fn float_value(delta: Result<Fixed, Refusal>, value: &mut f32) -> u8
     ensures { (result, value.new) ≡ numbered_float (outcome_fixed delta) }
 {
-    *value = float_of(delta);
-    match delta {
-        FixedAnswer::Value(_) => 0,
-        FixedAnswer::Refused(n) => readers::number(n),
-    }
+    answered(delta.map(f32::from), 0.0, value)
 }
 
 // The delta of a glyph's advance by the HVAR or VVAR at xvar; as a 16.16 number, and as a float.

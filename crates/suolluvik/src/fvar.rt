@@ -9,8 +9,9 @@ ghost use Rattle.opentype.specs.Values.{float_count, floats_in};
 ghost use Rattle.suolluvik.specs.Numbered.{numbered};
 ghost use Rattle.suolluvik.specs.Fvar.{axis_in, tagged_in, instance_in, no_instance, is_named, name_or_zero};
 
-use crate::counts::count_value;
-use axes::fvar::{AxisAnswer, Fvar, InstanceAnswer, NameId};
+use crate::answers::answered;
+use axes::axis::VarAxis;
+use axes::fvar::{Fvar, VarInstance};
 use numbers::Fixed;
 
 // How many axes the header counts, and how many instances; 0 where that can't be read.
@@ -33,56 +34,29 @@ pub extern "C" fn suolluvik_instance_count(fvar: &[u8]) -> u16
 pub extern "C" fn suolluvik_fixed_to_f32(fixed: i32) -> f32
     ensures { result ≡ to_float fixed }
 {
-    Fixed(fixed).to_f32()
+    Fixed(fixed).into()
 }
 
-fn raw(x: Fixed) -> i32
-    ensures { result ≡ x.0 }
-{
-    x.0
-}
-
-// The fields of an axis, but for its index.
-fn axis_fields(
-    answer: AxisAnswer,
-    tag: &mut u32,
+// The fields of an axis, but for its tag and its index.
+fn put_axis(
+    axis: VarAxis,
     min: &mut i32,
     default_value: &mut i32,
     max: &mut i32,
     flags: &mut u16,
     name_id: &mut u16,
-) -> u8
-    ensures number { result ≡ number (axis_outcome answer) }
-    ensures tag { tag.new ≡ (value_or no_axis (axis_outcome answer)).axis_tag }
-    ensures min { min.new ≡ (value_or no_axis (axis_outcome answer)).min_value }
-    ensures default { default_value.new ≡ (value_or no_axis (axis_outcome answer)).default_value }
-    ensures max { max.new ≡ (value_or no_axis (axis_outcome answer)).max_value }
-    ensures flags { flags.new ≡ (value_or no_axis (axis_outcome answer)).flags }
-    ensures name { name_id.new ≡ (value_or no_axis (axis_outcome answer)).axis_name_id }
+)
+    ensures min { min.new ≡ (axis_of axis).min_value }
+    ensures default { default_value.new ≡ (axis_of axis).default_value }
+    ensures max { max.new ≡ (axis_of axis).max_value }
+    ensures flags { flags.new ≡ (axis_of axis).flags }
+    ensures name { name_id.new ≡ (axis_of axis).axis_name_id }
 {
-    match answer {
-        AxisAnswer::Value(a) => {
-            *tag = a.tag;
-            let lowest = raw(a.min);
-            let middle = raw(a.default);
-            let highest = raw(a.max);
-            *min = lowest;
-            *default_value = middle;
-            *max = highest;
-            *flags = a.flags;
-            *name_id = a.name_id;
-            0
-        }
-        AxisAnswer::Refused(n) => {
-            *tag = 0;
-            *min = 0;
-            *default_value = 0;
-            *max = 0;
-            *flags = 0;
-            *name_id = 0;
-            readers::number(n)
-        }
-    }
+    *min = axis.min.0;
+    *default_value = axis.default.0;
+    *max = axis.max.0;
+    *flags = axis.flags;
+    *name_id = axis.name_id;
 }
 
 // Axis `index`: min, default and max are 16.16 numbers.
@@ -105,25 +79,11 @@ pub extern "C" fn suolluvik_axis(
     ensures flags { flags.new ≡ (value_or no_axis (axis_in fvar.now index)).flags }
     ensures name { name_id.new ≡ (value_or no_axis (axis_in fvar.now index)).axis_name_id }
 {
-    let header = Fvar::new(fvar);
-    axis_fields(
-        header.get_axis(fvar, index),
-        tag,
-        min,
-        default_value,
-        max,
-        flags,
-        name_id,
-    )
-}
-
-fn axis_index(answer: AxisAnswer) -> u16
-    ensures { result ≡ (value_or no_axis (axis_outcome answer)).index }
-{
-    match answer {
-        AxisAnswer::Value(a) => a.index,
-        AxisAnswer::Refused(_) => 0,
-    }
+    let mut axis = VarAxis::NONE;
+    let number = answered(Fvar::new(fvar).get_axis(fvar, index), VarAxis::NONE, &mut axis);
+    *tag = axis.tag;
+    put_axis(axis, min, default_value, max, flags, name_id);
+    number
 }
 
 // The first axis with a tag.
@@ -146,30 +106,11 @@ pub extern "C" fn suolluvik_axis_by_tag(
     ensures flags { flags.new ≡ (value_or no_axis (tagged_in fvar.now tag)).flags }
     ensures name { name_id.new ≡ (value_or no_axis (tagged_in fvar.now tag)).axis_name_id }
 {
-    let header = Fvar::new(fvar);
-    let answer = header.get_axis_by_tag(fvar, tag);
-    *index = axis_index(answer);
-    let mut found: u32 = 0;
-    axis_fields(answer, &mut found, min, default_value, max, flags, name_id)
-}
-
-// A name id that may be absent, as whether it is there, 1 or 0, and the id.
-fn named(name: NameId) -> u8
-    ensures { result ≡ is_named (name_of name) }
-{
-    match name {
-        NameId::Absent => 0,
-        NameId::Named(_) => 1,
-    }
-}
-
-fn name_or_zero(name: NameId) -> u16
-    ensures { result ≡ name_or_zero (name_of name) }
-{
-    match name {
-        NameId::Absent => 0,
-        NameId::Named(id) => id,
-    }
+    let mut axis = VarAxis::NONE;
+    let number = answered(Fvar::new(fvar).get_axis_by_tag(fvar, tag), VarAxis::NONE, &mut axis);
+    *index = axis.index;
+    put_axis(axis, min, default_value, max, flags, name_id);
+    number
 }
 
 // Instance `index`: its name id; whether it has a PostScript name id, 1 or 0, and that.
@@ -186,22 +127,12 @@ pub extern "C" fn suolluvik_instance(
     ensures has { has_postscript_name.new ≡ is_named (value_or no_instance (instance_in fvar.now index)).post_script_name_id }
     ensures postscript { postscript_name_id.new ≡ name_or_zero (value_or no_instance (instance_in fvar.now index)).post_script_name_id }
 {
-    let header = Fvar::new(fvar);
-    match header.get_instance(fvar, index) {
-        InstanceAnswer::Value(v) => {
-            let name = v.postscript_name_id;
-            *name_id = v.name_id;
-            *has_postscript_name = named(name);
-            *postscript_name_id = name_or_zero(name);
-            0
-        }
-        InstanceAnswer::Refused(n) => {
-            *name_id = 0;
-            *has_postscript_name = 0;
-            *postscript_name_id = 0;
-            readers::number(n)
-        }
-    }
+    let mut instance = VarInstance::NONE;
+    let number = answered(Fvar::new(fvar).get_instance(fvar, index), VarInstance::NONE, &mut instance);
+    *name_id = instance.name_id;
+    *has_postscript_name = u8::from(instance.postscript_name_id.is_some());
+    *postscript_name_id = instance.postscript_name_id.unwrap_or(0);
+    number
 }
 
 // The values of an instance, one for each axis, in the first elements of out; count is how many.
@@ -215,6 +146,5 @@ pub extern "C" fn suolluvik_instance_floats(
     ensures count { (result, count.new) ≡ numbered 0 (float_count fvar.now (header_of fvar.now) index (length out.old)) }
     ensures list { out.new ≡ floats_in fvar.now (header_of fvar.now) index out.old }
 {
-    let header = Fvar::new(fvar);
-    count_value(header.instance_floats(fvar, index, out), count)
+    answered(Fvar::new(fvar).instance_floats(fvar, index, out), 0, count)
 }

@@ -3,51 +3,42 @@
 ghost use Rattle.std.specs.Prelude.{◌≡◌};
 ghost use Rattle.metrics.specs.Scale.{zero, scale_for};
 ghost use Rattle.metrics.specs.Vertical.{synthesized_from};
-ghost use Rattle.metrics.specs.Structs.{vertical_of, glyphs_of, ordinate};
+ghost use Rattle.metrics.specs.Structs.{vertical_of, glyphs_of};
 ghost use Rattle.suolluvik.specs.Glyph.{vertical_case, glyphs, no_vertical, advance_or, origin_or, if_known, advance_width_in, left_bearing_in, advance_height_in, top_bearing_in, vertical_origin_in, materialized_advance, materialized_origin};
 ghost use Rattle.suolluvik.specs.Numbered.{numbered};
 ghost use Rattle.suolluvik.specs.GlyphAnswers.{vertical_outcome};
 
-use metrics::glyph::{GlyphMetrics, Ordinate, materialize_glyph_metrics};
+use crate::answers::answered;
+use metrics::glyph::{GlyphMetrics, materialize_glyph_metrics};
 use metrics::vertical::Vertical;
 use readers::Refusal;
 
-#[derive(Clone, Copy)]
-enum VerticalAnswer {
-    Value(Vertical),
-    Refused(Refusal),
-}
-
 // A vertical case by its number. offset is VVAR's; of the synthesized case MVAR's.
-fn vertical_case(which: u8, offset: u32, advance: f32, origin: f32) -> VerticalAnswer
+fn vertical_case(which: u8, offset: u32, advance: f32, origin: f32) -> Result<Vertical, Refusal>
     ensures { vertical_outcome result ≡ vertical_case which offset advance origin }
 {
-    if which == 0 {
-        return VerticalAnswer::Value(Vertical::VmtxGlyf {
+    match which {
+        0 => Ok(Vertical::VmtxGlyf {
             loca_fmt: 0,
             long_count: 0,
             vmtx: 0,
             vvar: offset,
             glyf: 0,
             loca: 0,
-        });
-    }
-    if which == 1 {
-        return VerticalAnswer::Value(Vertical::VmtxVorg {
+        }),
+        1 => Ok(Vertical::VmtxVorg {
             long_count: 0,
             vmtx: 0,
             vvar: offset,
             vorg: 0,
-        });
-    }
-    if which == 2 {
-        return VerticalAnswer::Value(Vertical::Synthesized {
+        }),
+        2 => Ok(Vertical::Synthesized {
             mvar: offset,
             advance,
             origin,
-        });
+        }),
+        _ => Err(Refusal::Index),
     }
-    VerticalAnswer::Refused(Refusal::Index)
 }
 
 // The fields that a glyph's measures hang on.
@@ -123,16 +114,9 @@ pub extern "C" fn suolluvik_advance_height(
 ) -> u8
     ensures { (result, value.new) ≡ numbered zero (advance_height_in font.now vertical vvar synthesized glyph_id coords.now unvaried scale) }
 {
-    match vertical_case(vertical, vvar, synthesized, 0.0) {
-        VerticalAnswer::Value(v) => {
-            *value = glyphs(0, 0, v, scale).advance_height(font, glyph_id, coords, unvaried);
-            0
-        }
-        VerticalAnswer::Refused(n) => {
-            *value = 0.0;
-            readers::number(n)
-        }
-    }
+    let height = vertical_case(vertical, vvar, synthesized, 0.0)
+        .map(|v| glyphs(0, 0, v, scale).advance_height(font, glyph_id, coords, unvaried));
+    answered(height, 0.0, value)
 }
 
 // Its top side bearing by the VVAR at an offset, 0 for none; or a synthesized 0.0, scaled.
@@ -149,25 +133,9 @@ pub extern "C" fn suolluvik_tsb(
 ) -> u8
     ensures { (result, value.new) ≡ numbered zero (top_bearing_in font.now vertical vvar glyph_id coords.now unvaried scale) }
 {
-    match vertical_case(vertical, vvar, 0.0, 0.0) {
-        VerticalAnswer::Value(v) => {
-            *value = glyphs(0, 0, v, scale).tsb(font, glyph_id, coords, unvaried);
-            0
-        }
-        VerticalAnswer::Refused(n) => {
-            *value = 0.0;
-            readers::number(n)
-        }
-    }
-}
-
-fn known(has_y: bool, y: i16) -> Ordinate
-    ensures { ordinate result ≡ if_known has_y y }
-{
-    if has_y {
-        return Ordinate::Known(y);
-    }
-    Ordinate::Missing
+    let bearing = vertical_case(vertical, vvar, 0.0, 0.0)
+        .map(|v| glyphs(0, 0, v, scale).tsb(font, glyph_id, coords, unvaried));
+    answered(bearing, 0.0, value)
 }
 
 // Its vertical origin, from its unvaried top side bearing and a y that may be missing: with glyf its yMax, with VORG its origin there; or the synthesized one, scaled.
@@ -188,26 +156,18 @@ pub extern "C" fn suolluvik_vertical_origin(
 ) -> u8
     ensures { (result, value.new) ≡ numbered zero (vertical_origin_in font.now units_per_em vertical vvar synthesized glyph_id coords.now unvaried (if_known has_y y) scale) }
 {
-    match vertical_case(vertical, vvar, 0.0, synthesized) {
-        VerticalAnswer::Value(v) => {
-            let m = glyphs(units_per_em, 0, v, scale);
-            let ordinate = known(has_y, y);
-            *value = m.vertical_origin(font, glyph_id, coords, unvaried, ordinate, ordinate);
-            0
-        }
-        VerticalAnswer::Refused(n) => {
-            *value = 0.0;
-            readers::number(n)
-        }
-    }
+    let y = has_y.then_some(y);
+    let origin = vertical_case(vertical, vvar, 0.0, synthesized).map(|v| {
+        glyphs(units_per_em, 0, v, scale).vertical_origin(font, glyph_id, coords, unvaried, y, y)
+    });
+    answered(origin, 0.0, value)
 }
 
 fn advance_or(given: f32, vertical: Vertical) -> f32
     ensures { result ≡ advance_or given (vertical_of vertical) }
 {
     match vertical {
-        Vertical::VmtxGlyf { .. } => given,
-        Vertical::VmtxVorg { .. } => given,
+        Vertical::VmtxGlyf { .. } | Vertical::VmtxVorg { .. } => given,
         Vertical::Synthesized { advance, .. } => advance,
     }
 }
@@ -216,8 +176,7 @@ fn origin_or(given: f32, vertical: Vertical) -> f32
     ensures { result ≡ origin_or given (vertical_of vertical) }
 {
     match vertical {
-        Vertical::VmtxGlyf { .. } => given,
-        Vertical::VmtxVorg { .. } => given,
+        Vertical::VmtxGlyf { .. } | Vertical::VmtxVorg { .. } => given,
         Vertical::Synthesized { origin, .. } => origin,
     }
 }
@@ -237,20 +196,10 @@ pub extern "C" fn suolluvik_materialize_glyph_metrics<'a>(
     ensures advance { (result, advance_at.new) ≡ numbered zero (materialized_advance font.now vertical mvar coords.now advance origin) }
     ensures origin { (result, origin_at.new) ≡ numbered zero (materialized_origin font.now vertical mvar coords.now advance origin) }
 {
-    match vertical_case(vertical, mvar, advance, origin) {
-        VerticalAnswer::Value(v) => {
-            let m = materialize_glyph_metrics(glyphs(0, 0, v, 0.0), font, coords);
-            let shifted = m.vertical;
-            *advance_at = advance_or(advance, shifted);
-            *origin_at = origin_or(origin, shifted);
-            0
-        }
-        VerticalAnswer::Refused(n) => {
-            *advance_at = 0.0;
-            *origin_at = 0.0;
-            readers::number(n)
-        }
-    }
+    let shifted = vertical_case(vertical, mvar, advance, origin)
+        .map(|v| materialize_glyph_metrics(glyphs(0, 0, v, 0.0), font, coords).vertical);
+    answered(shifted.map(|v| advance_or(advance, v)), 0.0, advance_at);
+    answered(shifted.map(|v| origin_or(origin, v)), 0.0, origin_at)
 }
 
 // The scale for pixels per em, to be handed to the measures of a glyph.
@@ -258,8 +207,7 @@ pub extern "C" fn suolluvik_materialize_glyph_metrics<'a>(
 pub extern "C" fn suolluvik_scale_glyph_metrics(units_per_em: u16, ppem: f32) -> f32
     ensures { result ≡ scale_for ppem units_per_em }
 {
-    let m = level(units_per_em, 0, 0.0).scale(ppem);
-    m.scale
+    level(units_per_em, 0, 0.0).scale(ppem).scale
 }
 
 // What swash synthesizes from a font's unvaried ascent and descent.

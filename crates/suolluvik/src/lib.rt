@@ -2,8 +2,8 @@
 // and has one value answers that.
 #![tactic(auto)]
 
+pub mod answers;
 pub mod coords;
-pub mod counts;
 pub mod deltas;
 pub mod fvar;
 pub mod glyph;

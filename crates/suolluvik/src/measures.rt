@@ -68,7 +68,7 @@ pub extern "C" fn suolluvik_materialize_metrics<'a>(
     ensures list { measures.new ≡ changed (materialized_metrics font.now mvar coords.now) 0 has_vertical_metrics measures.old }
 {
     if measures.len() != COUNT {
-        return readers::number(Refusal::Room);
+        return Refusal::Room.into();
     }
     let unvaried = record_in(0, has_vertical_metrics, measures);
     put(materialize_metrics(unvaried, font, mvar, coords), measures);
@@ -82,7 +82,7 @@ pub extern "C" fn suolluvik_scale_metrics(units_per_em: u16, ppem: f32, measures
     ensures list { measures.new ≡ changed (scaled_metrics ppem) units_per_em false measures.old }
 {
     if measures.len() != COUNT {
-        return readers::number(Refusal::Room);
+        return Refusal::Room.into();
     }
     let m = record_in(units_per_em, false, measures);
     put(m.scale(ppem), measures);
@@ -96,7 +96,7 @@ pub extern "C" fn suolluvik_linear_scale_metrics(scale: f32, measures: &mut [f32
     ensures list { measures.new ≡ changed (linear_scaled scale) 0 false measures.old }
 {
     if measures.len() != COUNT {
-        return readers::number(Refusal::Room);
+        return Refusal::Room.into();
     }
     let m = record_in(0, false, measures);
     put(m.linear_scale(scale), measures);

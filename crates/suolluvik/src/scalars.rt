@@ -6,10 +6,10 @@ ghost use Rattle.opentype.specs.Metric.{advance, bearing, store_of};
 ghost use Rattle.opentype.specs.Lines.{metric_delta_with, mvar_store, mvar_delta_with};
 ghost use Rattle.suolluvik.specs.Numbered.{numbered, numbered_float};
 
+use crate::answers::answered;
 use crate::deltas::{fixed_value, float_value};
 use lines::metric::{advance_delta_fixed_with, sb_delta_fixed_with};
 use lines::mvar::{mvar_delta_with, mvar_store};
-use readers::{Half, Word};
 use store::metric::store_of;
 
 // Where the store of the HVAR or VVAR at xvar is.
@@ -17,16 +17,7 @@ use store::metric::store_of;
 pub extern "C" fn suolluvik_store_offset(font: &[u8], xvar: u32, value: &mut u32) -> u8
     ensures { (result, value.new) ≡ numbered 0 (run font.now (store_of xvar)) }
 {
-    match store_of(font, xvar) {
-        Word::Value(x) => {
-            *value = x;
-            0
-        }
-        Word::Refused(n) => {
-            *value = 0;
-            readers::number(n)
-        }
-    }
+    answered(store_of(font, xvar), 0, value)
 }
 
 // Where the store of the MVAR at an offset is, counted from the MVAR's start.
@@ -34,16 +25,7 @@ pub extern "C" fn suolluvik_store_offset(font: &[u8], xvar: u32, value: &mut u32
 pub extern "C" fn suolluvik_mvar_store_offset(font: &[u8], mvar: u32, value: &mut u32) -> u8
     ensures { (result, value.new) ≡ numbered 0 (mvar_store font.now mvar) }
 {
-    match mvar_store(font, mvar) {
-        Half::Value(x) => {
-            *value = x as u32;
-            0
-        }
-        Half::Refused(n) => {
-            *value = 0;
-            readers::number(n)
-        }
-    }
+    answered(mvar_store(font, mvar).map(u32::from), 0, value)
 }
 
 // The delta of a glyph's advance, as a 16.16 number.

@@ -2,64 +2,17 @@
 // refused 0.0 is added.
 ghost use Rattle.std.specs.Prelude.{◌≡◌, pos};
 ghost use Rattle.readers.specs.Reading.{run};
-ghost use Rattle.readers.specs.Answers.{outcome16, outcome_i16};
 ghost use Rattle.opentype.specs.Metric.{advance as advance_of, bearing};
 ghost use Rattle.opentype.specs.Xmtx.{advance_at, sb_at};
 ghost use Rattle.opentype.specs.Vorg.{origin_at};
 ghost use Rattle.metrics.specs.Scale.{zero};
 ghost use Rattle.widths.specs.Adjusted.{adjusted_at};
-ghost use Rattle.widths.specs.Answers.{outcome_f32};
 ghost use Rattle.suolluvik.specs.Numbered.{numbered};
 
-use readers::{Half, Signed};
-use widths::adjusted::{FloatAnswer, adjusted_advance, adjusted_sb};
+use crate::answers::answered;
+use widths::adjusted::{adjusted_advance, adjusted_sb};
 use widths::vorg::origin;
 use widths::xmtx::{advance, sb};
-
-fn half_value(answer: Half, value: &mut u16) -> u8
-    ensures { (result, value.new) ≡ numbered 0 (outcome16 answer) }
-{
-    match answer {
-        Half::Value(x) => {
-            *value = x;
-            0
-        }
-        Half::Refused(n) => {
-            *value = 0;
-            readers::number(n)
-        }
-    }
-}
-
-fn signed_value(answer: Signed, value: &mut i16) -> u8
-    ensures { (result, value.new) ≡ numbered (pos 0) (outcome_i16 answer) }
-{
-    match answer {
-        Signed::Value(x) => {
-            *value = x;
-            0
-        }
-        Signed::Refused(n) => {
-            *value = 0;
-            readers::number(n)
-        }
-    }
-}
-
-fn measure_value(answer: FloatAnswer, value: &mut f32) -> u8
-    ensures { (result, value.new) ≡ numbered zero (outcome_f32 answer) }
-{
-    match answer {
-        FloatAnswer::Value(x) => {
-            *value = x;
-            0
-        }
-        FloatAnswer::Refused(n) => {
-            *value = 0.0;
-            readers::number(n)
-        }
-    }
-}
 
 // The unvaried advance of a glyph, by the hmtx or vmtx at an offset and the count of its long records, which is hhea's or vhea's.
 #[unsafe(no_mangle)]
@@ -72,7 +25,11 @@ pub extern "C" fn suolluvik_xmtx_advance(
 ) -> u8
     ensures { (result, value.new) ≡ numbered 0 (run font.now (advance_at xmtx long_metric_count glyph_id)) }
 {
-    half_value(advance(font, xmtx, long_metric_count, glyph_id), value)
+    answered(
+        advance(font, xmtx, long_metric_count, glyph_id),
+        0,
+        value,
+    )
 }
 
 // Its unvaried left or top side bearing.
@@ -86,7 +43,7 @@ pub extern "C" fn suolluvik_xmtx_sb(
 ) -> u8
     ensures { (result, value.new) ≡ numbered (pos 0) (run font.now (sb_at xmtx long_metric_count glyph_id)) }
 {
-    signed_value(sb(font, xmtx, long_metric_count, glyph_id), value)
+    answered(sb(font, xmtx, long_metric_count, glyph_id), 0, value)
 }
 
 // The y coordinate of its vertical origin, by the VORG at an offset; not varied.
@@ -99,7 +56,7 @@ pub extern "C" fn suolluvik_vorg_origin(
 ) -> u8
     ensures { (result, value.new) ≡ numbered (pos 0) (run font.now (origin_at vorg glyph_id)) }
 {
-    signed_value(origin(font, vorg, glyph_id), value)
+    answered(origin(font, vorg, glyph_id), 0, value)
 }
 
 // Its advance width by hmtx and HVAR, or its advance height by vmtx and VVAR; with no HVAR or VVAR the second offset is 0.
@@ -117,7 +74,7 @@ pub extern "C" fn suolluvik_adjusted_advance(
     ensures { (result, value.new) ≡ numbered zero (adjusted_at font.now advance_of xmtx long_metric_count xvar glyph_id coords.now scale) }
 {
     let answer = adjusted_advance(font, xmtx, long_metric_count, xvar, glyph_id, coords, scale);
-    measure_value(answer, value)
+    answered(answer, 0.0, value)
 }
 
 // Its left or top side bearing, in the same way.
@@ -135,5 +92,5 @@ pub extern "C" fn suolluvik_adjusted_sb(
     ensures { (result, value.new) ≡ numbered zero (adjusted_at font.now bearing xmtx long_metric_count xvar glyph_id coords.now scale) }
 {
     let answer = adjusted_sb(font, xmtx, long_metric_count, xvar, glyph_id, coords, scale);
-    measure_value(answer, value)
+    answered(answer, 0.0, value)
 }

@@ -1,11 +1,10 @@
--- What the structs and enums of `metrics` stand for, and steps on the way.
-use Rattle.std.specs.Prelude.{ℕ, cond, eqb, ℤ, Float}
+-- What the structs and enums of `metrics` stand for.
+use Rattle.std.specs.Prelude.{ℕ, cond, eqb, ℤ, Float, Option as Maybe, Some, None}
 use Rattle.std.proofs.Math.Option.{Option, none, some}
 use Rattle.opentype.specs.MvarTags as T
 use Rattle.opentype.specs.MvarDeltas.{Deltas}
-use Rattle.metrics.specs.Scale.{plus, zero}
+use Rattle.metrics.specs.Scale.{zero}
 use Rattle.metrics.specs.Measures as Measures
-use Rattle.metrics.specs.Measures.{Follows, always, vertically, never}
 use Rattle.metrics.specs.Vertical as Vertically
 use Rattle.metrics.specs.Vertical.{vmtx_glyf, vmtx_vorg, synthesized}
 use Rattle.metrics.specs.Glyph as Glyph
@@ -13,8 +12,6 @@ use Rattle.metrics.specs.declared.measures.Metrics.{Metrics}
 use Rattle.metrics.specs.declared.vertical.Vertical.{Vertical}
 use Rattle.metrics.specs.declared.vertical.Vertical.TheVariants as W
 use Rattle.metrics.specs.declared.glyph.GlyphMetrics.{GlyphMetrics}
-use Rattle.metrics.specs.declared.glyph.Ordinate.{Ordinate}
-use Rattle.metrics.specs.declared.glyph.Ordinate.TheVariants as O
 
 abbrev pub metrics_of : Metrics → Measures.Metrics
 metrics_of m = record {
@@ -54,15 +51,10 @@ glyphs_of m = record {
   scale = m.scale;
 }
 
-abbrev pub ordinate : Ordinate → Option ℤ
-ordinate (O.Known y) = some y
-ordinate O.Missing = none
-
--- A step of shifting: the vertical measures alone, with the deltas of their tags.
-abbrev pub shift_vertical : (ℕ → Float) → Follows → Float → Float
-shift_vertical delta (always t) x = x
-shift_vertical delta (vertically t) x = plus x (delta t)
-shift_vertical delta never x = x
+-- A y coordinate of a glyph, if the font has one.
+abbrev pub ordinate : Maybe ℤ → Option ℤ
+ordinate (Some y) = some y
+ordinate None = none
 
 -- The delta of a tag, among deltas by their tags; 0.0 of any other tag, which no measure follows.
 abbrev pub tagged : Deltas → ℕ → Float

@@ -8,15 +8,7 @@ ghost use Rattle.metrics.specs.Structs.{glyphs_of, ordinate};
 
 use crate::measures::scale_for;
 use crate::vertical::Vertical;
-use numbers::as_i16;
 use store::metric::{Measure, float_of, metric_delta};
-
-// A y coordinate of a glyph, if the font has one.
-#[derive(Clone, Copy)]
-pub enum Ordinate {
-    Known(i16),
-    Missing,
-}
 
 // What is the same for all glyphs of a font. Each call is lent the font and the coordinates and given the glyph's unvaried numbers; the offsets and counts of hmtx and
 // of the vertical tables are kept for whoever reads those.
@@ -37,26 +29,21 @@ impl GlyphMetrics {
     pub fn has_vertical_metrics(self) -> bool
         ensures { result ≡ has_vertical_metrics (glyphs_of self).vertical }
     {
-        let v = self.vertical;
-        v.has_vertical_metrics()
+        self.vertical.has_vertical_metrics()
     }
 
     // Whether variations are supported.
     pub fn has_variations(self) -> bool
         ensures { result ≡ has_variations (glyphs_of self) }
     {
-        if self.hvar != 0 {
-            return true;
-        }
-        self.has_vvar
+        self.hvar != 0 || self.has_vvar
     }
 
     // The same, scaled for pixels per em.
     pub fn scale(self, ppem: f32) -> GlyphMetrics
         ensures { glyphs_of result ≡ scaled_glyphs ppem (glyphs_of self) }
     {
-        let upem = self.units_per_em;
-        self.linear_scale(scale_for(ppem, upem))
+        self.linear_scale(scale_for(ppem, self.units_per_em))
     }
 
     // The same with this scale, whatever it was.
@@ -71,14 +58,14 @@ impl GlyphMetrics {
     pub fn advance_width(self, font: &[u8], glyph_id: u16, coords: &[i16], unvaried: u16) -> f32
         ensures { result ≡ advance_width font.now glyph_id coords.now unvaried (glyphs_of self) }
     {
-        self.level(font, Measure::Advance, glyph_id, coords, unvaried as f32)
+        self.level(font, Measure::Advance, glyph_id, coords, unvaried.into())
     }
 
     // The left side bearing of a glyph, from the unvaried one.
     pub fn lsb(self, font: &[u8], glyph_id: u16, coords: &[i16], unvaried: i16) -> f32
         ensures { result ≡ left_bearing font.now glyph_id coords.now unvaried (glyphs_of self) }
     {
-        self.level(font, Measure::Bearing, glyph_id, coords, unvaried as f32)
+        self.level(font, Measure::Bearing, glyph_id, coords, unvaried.into())
     }
 
     // An advance width or a left side bearing.
@@ -92,23 +79,23 @@ impl GlyphMetrics {
     ) -> f32
         ensures { result ≡ varied font.now (glyphs_of self).hvar (measure_of measure) glyph_id coords.now unvaried (glyphs_of self).scale }
     {
-        let hvar = self.hvar;
-        let scale = self.scale;
-        varied(font, hvar, measure, glyph_id, coords, unvaried, scale)
+        varied(
+            font, self.hvar, measure, glyph_id, coords, unvaried, self.scale,
+        )
     }
 
     // The advance height of a glyph, from the unvaried one; or the synthesized one.
     pub fn advance_height(self, font: &[u8], glyph_id: u16, coords: &[i16], unvaried: u16) -> f32
         ensures { result ≡ advance_height font.now glyph_id coords.now unvaried (glyphs_of self) }
     {
-        self.upright(font, Measure::Advance, glyph_id, coords, unvaried as f32)
+        self.upright(font, Measure::Advance, glyph_id, coords, unvaried.into())
     }
 
     // The top side bearing of a glyph, from the unvaried one; or a synthesized 0.0, scaled too.
     pub fn tsb(self, font: &[u8], glyph_id: u16, coords: &[i16], unvaried: i16) -> f32
         ensures { result ≡ top_bearing font.now glyph_id coords.now unvaried (glyphs_of self) }
     {
-        self.upright(font, Measure::Bearing, glyph_id, coords, unvaried as f32)
+        self.upright(font, Measure::Bearing, glyph_id, coords, unvaried.into())
     }
 
     // An advance height or a top side bearing, from the unvaried one as a float.
@@ -122,16 +109,13 @@ impl GlyphMetrics {
     ) -> f32
         ensures { result ≡ upright font.now (measure_of measure) glyph_id coords.now unvaried (glyphs_of self).scale (glyphs_of self).vertical }
     {
-        let scale = self.scale;
-        let v = self.vertical;
-        match v {
-            Vertical::VmtxGlyf { vvar, .. } => {
-                varied(font, vvar, measure, glyph_id, coords, unvaried, scale)
+        match self.vertical {
+            Vertical::VmtxGlyf { vvar, .. } | Vertical::VmtxVorg { vvar, .. } => {
+                varied(font, vvar, measure, glyph_id, coords, unvaried, self.scale)
             }
-            Vertical::VmtxVorg { vvar, .. } => {
-                varied(font, vvar, measure, glyph_id, coords, unvaried, scale)
+            Vertical::Synthesized { advance, .. } => {
+                synthesized_measure(measure, advance) * self.scale
             }
-            Vertical::Synthesized { advance, .. } => synthesized_measure(measure, advance) * scale,
         }
     }
 
@@ -142,20 +126,17 @@ impl GlyphMetrics {
         glyph_id: u16,
         coords: &[i16],
         unvaried: i16,
-        y_max: Ordinate,
-        origin: Ordinate,
+        y_max: Option<i16>,
+        origin: Option<i16>,
     ) -> f32
         ensures { result ≡ vertical_origin font.now glyph_id coords.now unvaried (ordinate y_max) (ordinate origin) (glyphs_of self) }
     {
-        let scale = self.scale;
-        let upem = self.units_per_em;
-        let v = self.vertical;
-        match v {
+        match self.vertical {
             Vertical::VmtxGlyf { .. } => {
-                self.glyf_origin(font, glyph_id, coords, unvaried, y_max) * scale
+                self.glyf_origin(font, glyph_id, coords, unvaried, y_max) * self.scale
             }
-            Vertical::VmtxVorg { .. } => vorg_origin(upem, origin) * scale,
-            Vertical::Synthesized { origin: made, .. } => made * scale,
+            Vertical::VmtxVorg { .. } => vorg_origin(self.units_per_em, origin) * self.scale,
+            Vertical::Synthesized { origin, .. } => origin * self.scale,
         }
     }
 
@@ -166,14 +147,13 @@ impl GlyphMetrics {
         glyph_id: u16,
         coords: &[i16],
         unvaried: i16,
-        y_max: Ordinate,
+        y_max: Option<i16>,
     ) -> f32
         ensures { result ≡ glyf_origin (glyphs_of self).units_per_em (ordinate y_max) (top_bearing font.now glyph_id coords.now unvaried (glyphs_of self)) }
     {
-        let upem = self.units_per_em;
         match y_max {
-            Ordinate::Known(y) => (y as f32) + self.tsb(font, glyph_id, coords, unvaried),
-            Ordinate::Missing => upem as f32,
+            Some(y) => f32::from(y) + self.tsb(font, glyph_id, coords, unvaried),
+            None => f32::from(self.units_per_em),
         }
     }
 }
@@ -186,16 +166,9 @@ pub fn materialize_glyph_metrics<'a>(
 ) -> GlyphMetrics
     ensures { glyphs_of result ≡ materialized_glyphs font.now coords.now (glyphs_of unvaried) }
 {
-    let v = unvaried.vertical;
     GlyphMetrics {
-        units_per_em: unvaried.units_per_em,
-        glyph_count: unvaried.glyph_count,
-        hmtx: unvaried.hmtx,
-        hvar: unvaried.hvar,
-        hmtx_count: unvaried.hmtx_count,
-        has_vvar: unvaried.has_vvar,
-        vertical: v.materialize(font, coords),
-        scale: unvaried.scale,
+        vertical: unvaried.vertical.materialize(font, coords),
+        ..unvaried
     }
 }
 
@@ -230,11 +203,8 @@ fn synthesized_measure(measure: Measure, height: f32) -> f32
     }
 }
 
-fn vorg_origin(units_per_em: u16, origin: Ordinate) -> f32
+fn vorg_origin(units_per_em: u16, origin: Option<i16>) -> f32
     ensures { result ≡ vorg_origin units_per_em (ordinate origin) }
 {
-    match origin {
-        Ordinate::Known(y) => y as f32,
-        Ordinate::Missing => as_i16(units_per_em) as f32,
-    }
+    f32::from(origin.unwrap_or(units_per_em.cast_signed()))
 }

@@ -1,9 +1,9 @@
 // The measures of a font.
-ghost use Rattle.std.specs.Prelude.{◌≡◌, true, false};
+ghost use Rattle.std.specs.Prelude.{◌≡◌, true};
 ghost use Rattle.store.specs.MvarDeltasAnswers.{deltas_of, wants_others, wants_vertical};
 ghost use Rattle.metrics.specs.Scale.{scale_for};
-ghost use Rattle.metrics.specs.Measures.{each, shift, shifted, materialized_metrics, linear_scaled, scaled_metrics};
-ghost use Rattle.metrics.specs.Structs.{metrics_of, shift_vertical, tagged};
+ghost use Rattle.metrics.specs.Measures.{shifted, materialized_metrics, linear_scaled, scaled_metrics};
+ghost use Rattle.metrics.specs.Structs.{metrics_of, tagged};
 
 use crate::deltas::opened_deltas;
 use store::mvar_deltas::{MeasureDeltas, Wanted};
@@ -52,11 +52,10 @@ impl Metrics {
     pub fn scale(self, ppem: f32) -> Metrics
         ensures { metrics_of result ≡ scaled_metrics ppem (metrics_of self) }
     {
-        let upem = self.units_per_em;
-        self.linear_scale(scale_for(ppem, upem))
+        self.linear_scale(scale_for(ppem, self.units_per_em))
     }
 
-    // The measures scaled by a factor.
+    // The measures scaled by a factor. Field by field, here and below: swash names each measure.
     pub fn linear_scale(mut self, s: f32) -> Metrics
         ensures { metrics_of result ≡ linear_scaled s (metrics_of self) }
     {
@@ -75,6 +74,37 @@ impl Metrics {
         self.stroke_size *= s;
         self
     }
+
+    // Which deltas shift the measures.
+    fn wanted(self) -> Wanted
+        ensures { (wants_others result ≡ true) × (wants_vertical result ≡ self.has_vertical_metrics) }
+    {
+        if self.has_vertical_metrics {
+            Wanted::All
+        } else {
+            Wanted::AllButVertical
+        }
+    }
+
+    // The measures with their deltas, the vertical ones only of a font that has them.
+    fn shifted(mut self, d: MeasureDeltas) -> Metrics
+        ensures { metrics_of result ≡ shifted (tagged (deltas_of d)) (metrics_of self) }
+    {
+        self.ascent += d.hasc;
+        self.descent += d.hdsc;
+        self.leading += d.hlgp;
+        self.cap_height += d.cpht;
+        self.x_height += d.xhgt;
+        self.underline_offset += d.undo;
+        self.strikeout_offset += d.stro;
+        self.stroke_size += d.unds;
+        if self.has_vertical_metrics {
+            self.vertical_ascent += d.vasc;
+            self.vertical_descent += d.vdsc;
+            self.vertical_leading += d.vlgp;
+        }
+        self
+    }
 }
 
 // The factor for pixels per em.
@@ -84,54 +114,7 @@ pub(crate) fn scale_for(ppem: f32, units_per_em: u16) -> f32
     if units_per_em == 0 {
         return 1.0;
     }
-    ppem / (units_per_em as f32)
-}
-
-// Which deltas shift the measures.
-fn wanted_for(vertical: bool) -> Wanted
-    ensures { (wants_others result ≡ true) × (wants_vertical result ≡ vertical) }
-{
-    if vertical {
-        return Wanted::All;
-    }
-    Wanted::AllButVertical
-}
-
-// All but the vertical measures, with their deltas.
-fn shifted_always(unvaried: Metrics, d: MeasureDeltas) -> Metrics
-    ensures { metrics_of result ≡ each (shift false (tagged (deltas_of d))) (metrics_of unvaried) }
-{
-    let mut m = unvaried;
-    m.ascent += d.hasc;
-    m.descent += d.hdsc;
-    m.leading += d.hlgp;
-    m.cap_height += d.cpht;
-    m.x_height += d.xhgt;
-    m.underline_offset += d.undo;
-    m.strikeout_offset += d.stro;
-    m.stroke_size += d.unds;
-    m
-}
-
-// The vertical ones.
-fn shifted_vertically(unvaried: Metrics, d: MeasureDeltas) -> Metrics
-    ensures { metrics_of result ≡ each (shift_vertical (tagged (deltas_of d))) (metrics_of unvaried) }
-{
-    let mut m = unvaried;
-    m.vertical_ascent += d.vasc;
-    m.vertical_descent += d.vdsc;
-    m.vertical_leading += d.vlgp;
-    m
-}
-
-fn shifted(unvaried: Metrics, d: MeasureDeltas) -> Metrics
-    ensures { metrics_of result ≡ shifted (tagged (deltas_of d)) (metrics_of unvaried) }
-{
-    let m = shifted_always(unvaried, d);
-    if unvaried.has_vertical_metrics {
-        return shifted_vertically(m, d);
-    }
-    m
+    ppem / f32::from(units_per_em)
 }
 
 // The measures at some coordinates, from the unvaried ones, in font units, and the offset of the font's MVAR, 0 for none.
@@ -143,17 +126,11 @@ pub fn materialize_metrics<'a>(
 ) -> Metrics
     ensures { metrics_of result ≡ materialized_metrics font.now mvar coords.now (metrics_of unvaried) }
 {
-    if mvar == 0 {
+    if mvar == 0 || coords.is_empty() {
         return unvaried;
     }
-    if coords.len() == 0 {
+    let Ok(d) = opened_deltas(font, mvar, coords, unvaried.wanted()) else {
         return unvaried;
-    }
-    let mut number: u8 = 0;
-    let wanted = wanted_for(unvaried.has_vertical_metrics);
-    let d = opened_deltas(font, mvar, coords, &mut number, wanted);
-    if number != 0 {
-        return unvaried;
-    }
-    shifted(unvaried, d)
+    };
+    unvaried.shifted(d)
 }

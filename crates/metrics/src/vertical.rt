@@ -1,6 +1,6 @@
 // What a font has for vertical type.
 ghost use Rattle.std.specs.Prelude.{◌≡◌};
-ghost use Rattle.metrics.specs.Vertical.{has_vertical_metrics, synthesized_from, synthesized_at, materialized_vertical};
+ghost use Rattle.metrics.specs.Vertical.{has_vertical_metrics, synthesized_from, materialized_vertical};
 ghost use Rattle.metrics.specs.Structs.{vertical_of};
 
 use crate::deltas::opened_deltas;
@@ -31,39 +31,6 @@ pub enum Vertical {
     },
 }
 
-// The synthesized case at some coordinates. The advance's two deltas are added to each other first, as in swash.
-fn materialize_synthesized<'a>(
-    font: &'a [u8],
-    mvar: u32,
-    coords: &'a [i16],
-    advance: f32,
-    origin: f32,
-) -> Vertical
-    ensures { vertical_of result ≡ synthesized_at font.now coords.now mvar advance origin }
-{
-    let unvaried = Vertical::Synthesized {
-        mvar,
-        advance,
-        origin,
-    };
-    if mvar == 0 {
-        return unvaried;
-    }
-    if coords.len() == 0 {
-        return unvaried;
-    }
-    let mut number: u8 = 0;
-    let d = opened_deltas(font, mvar, coords, &mut number, Wanted::Ascents);
-    if number != 0 {
-        return unvaried;
-    }
-    Vertical::Synthesized {
-        mvar,
-        advance: advance + (d.hasc + d.hdsc),
-        origin: origin + d.hasc,
-    }
-}
-
 impl Vertical {
     // What swash synthesizes from a font's measures, of which the descent is minus OpenType's descender, and the offset of its MVAR, 0 for none.
     pub fn synthesize(mvar: u32, ascent: f32, descent: f32) -> Vertical
@@ -80,25 +47,31 @@ impl Vertical {
     pub(crate) fn has_vertical_metrics(self) -> bool
         ensures { result ≡ has_vertical_metrics (vertical_of self) }
     {
-        match self {
-            Vertical::VmtxGlyf { .. } => true,
-            Vertical::VmtxVorg { .. } => true,
-            Vertical::Synthesized { .. } => false,
-        }
+        !matches!(self, Vertical::Synthesized { .. })
     }
 
-    // Vertical metrics at some coordinates: the synthesized case is shifted by MVAR.
+    // Vertical metrics at some coordinates: the synthesized case is shifted by MVAR. The advance's two deltas are added to each other first, as in swash.
     pub(crate) fn materialize<'a>(self, font: &'a [u8], coords: &'a [i16]) -> Vertical
         ensures { vertical_of result ≡ materialized_vertical font.now coords.now (vertical_of self) }
     {
-        match self {
-            Vertical::VmtxGlyf { .. } => self,
-            Vertical::VmtxVorg { .. } => self,
-            Vertical::Synthesized {
-                mvar,
-                advance,
-                origin,
-            } => materialize_synthesized(font, mvar, coords, advance, origin),
+        let Vertical::Synthesized {
+            mvar,
+            advance,
+            origin,
+        } = self
+        else {
+            return self;
+        };
+        if mvar == 0 || coords.is_empty() {
+            return self;
+        }
+        let Ok(d) = opened_deltas(font, mvar, coords, Wanted::Ascents) else {
+            return self;
+        };
+        Vertical::Synthesized {
+            mvar,
+            advance: advance + (d.hasc + d.hdsc),
+            origin: origin + d.hasc,
         }
     }
 }

@@ -5,27 +5,27 @@ use mathlib.Core.Path.{◌≡◌, refl, ap, sym, ◌∙◌}
 use mathlib.Core.Bool.{Bool, true, false}
 use mathlib.Core.List.{List}
 use native.Mathlib.Omega.{arith}
-use borrow.Author.Tests.{le-leb, leb-true, leb-false, ltb-true}
+use borrow.Author.Tests.{le-leb, leb-true, leb-false}
 use lib.Dec.{leb}
 use lib.IntN.{ℤ, pos, negsuc}
 use lib.ListN.{length, get_or, take, drop}
 use lib.Seq.{get_or-drop, get_or-take, length-take-le}
 use Rattle.readers.specs.Outcome.{Outcome, value, refused, value_or, onward}
-use Rattle.readers.specs.Reading.{Reading, answer, ◌>>=◌, unsigned_at, signed_at, big_endian, run}
+use Rattle.readers.specs.Reading.{Reading, answer, ◌>>=◌, unsigned_at, signed_at, run}
 use Rattle.readers.specs.Walk.{turns, walk}
 use Rattle.readers.proofs.Reading.{run_bind, passed}
 use Rattle.readers.proofs.Passed.{bytes_there, test_held, answer_is}
 use Rattle.readers.proofs.TwoFonts.{then_same}
 use Rattle.readers.proofs.Lent.{fill_at, fill_length}
 use Rattle.opentype.specs.Region.{coordinate, triple_at, Tent, next, outside, tent, tent_at, under, axis_turn, region_scalar}
-use Rattle.opentype.specs.Item.{Regions, region_list, region_start, Item, row_at, item_at, region_index_at, item_sum, delta_in, item_delta}
+use Rattle.opentype.specs.Item.{Regions, region_list, region_start, Item, row_at, item_at, item_sum, delta_in, item_delta}
 use Rattle.opentype.specs.Metric.{Measure, store_of, delta_set_index_at, metric_delta}
 use Rattle.opentype.specs.Mvar.{Header, header_at, find, index_in, tag_delta, mvar_delta}
-use Rattle.opentype.specs.Footprint.{Part}
 use Rattle.opentype.specs.Lines.{kept_scalar, room_for, fill_count, filled, known, scalar_from, item_sum_with, delta_with, item_delta_with, metric_delta_with, mvar_store, mvar_delta_with}
 use Rattle.store.proofs.Triples.{triple_in, triple_there, triple_cut}
 use Rattle.store.proofs.Scalars.{scalar_range}
-use Rattle.store.proofs.SameParts.{Alike, Same, row_same}
+use Rattle.store.proofs.SameParts.{Same, row_same}
+use Rattle.lines.proofs.Rows.{index_below, itself}
 
 -- A reading of two that gave a value: the first gave one, and so did the second.
 bound : {A B : Type 0} (font : List ℕ) (d : Reading A) (k : A → Reading B) (b : B) → run font (d >>= k) ≡ value b → (a : A) × (run font d ≡ value a) × (run font (k a) ≡ value b)
@@ -92,15 +92,6 @@ module _ (font : List ℕ) where
       let same : record { regions = r; row = row } ≡ item = answer_is font _ item q2 in
       rw (ap (λ (i : Item). i.regions) same) at p
 
-  -- A region index that was answered is below the count.
-  index_below : (count p region : ℕ) → run font (region_index_at count p) ≡ value region → region < count
-  unfolding region_index_at unsigned_at
-  index_below count p region e =
-      let read = (bytes_there font 2 p _ region e).1 in
-      let held = test_held font _ _ _ region read in
-      let same : big_endian 2 font p ≡ region = answer_is font _ region held.1 in
-      rw same at (ltb-true (big_endian 2 font p) count held.0)
-
 -- ---- any list that keeps the numbers
 
 -- A list keeps the scalars of a store's regions at some coordinates: it has a place for each region, with the number that filling puts there. What stands behind them is not said.
@@ -121,14 +112,11 @@ module _ (font : List ℕ) (octets : (j : ℕ) → get_or font j 0 < 256) (store
       ∙ kept_known font (run font (region_scalar coords regions.axis_count (region_start regions region)))
       (scalar_range font octets coords regions.axis_count (region_start regions region)) (scalar_short font coords regions.axis_count (region_start regions region))
 
-  alike : (parts : List Part) → Alike font font coords coords parts
-  alike parts = record { over = λ j e. refl; on = λ axis e. refl }
-
   sums : (item : Item) → item.regions ≡ regions → run font (item_sum_with list item) ≡ run font (item_sum coords item)
   unfolding item_sum_with item_sum Same
   sums item e =
       let same = row_same font font coords coords refl item (scalar_from list) (λ region. region_scalar coords item.regions.axis_count (region_start item.regions region))
-      (λ region k rest names _. rw (← e) at (scalar_kept region (rw e at (index_below font _ _ region names)))) (alike _) in
+      (λ region k rest names _. rw (← e) at (scalar_kept region (rw e at (index_below font _ _ region names)))) (itself font coords _) in
       sym (passed font _ 7 _ _ (le-leb item.regions.region_count (length list) (rw (← e) at keeps.2)) (sym same.0))
 
   pub keeping_item : (outer inner : ℕ) → item_delta_with font store outer inner list ≡ item_delta font store outer inner coords

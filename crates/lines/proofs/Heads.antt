@@ -1,13 +1,14 @@
 -- What a store has before a row, by the tests that stand for its reads: of several that refuse alike and stand behind one another, the last is tested. Assumes nothing.
 use Prim.Native.Nat.{ℕ, ◌+◌, ◌*◌, ◌≤◌, ◌<◌}
-use mathlib.Core.Path.{◌≡◌, ap, sym}
+use mathlib.Core.Path.{◌≡◌, ap, sym, ◌∙◌}
 use mathlib.Core.Bool.{not}
 use mathlib.Core.List.{List}
 use native.Mathlib.Omega.{arith}
 use borrow.Author.Tests.{eq-eqb, ne_eqb, le-leb, lt-leb, lt-ltb, le-ltb}
 use lib.Dec.{leb, ltb}
 use lib.IntN.{ℤ}
-use lib.ListN.{length}
+use lib.ListN.{length, take}
+use lib.Seq.{length-take-le}
 use Rattle.readers.specs.Outcome.{Outcome, refused}
 use Rattle.readers.specs.Reading.{Reading, ◌>>=◌, ◌>>◌, check, unsigned_at, big_endian, run}
 use Rattle.readers.proofs.Bytes.{present, missing}
@@ -15,6 +16,7 @@ use Rattle.readers.proofs.Passed.{cut_later}
 use Rattle.readers.proofs.Reading.{passed, failed}
 use Rattle.opentype.specs.Item.{Regions, region_list, Row, row_at, item_at, row_sum}
 use Rattle.opentype.specs.Lines.{scalar_from, item_sum_with, delta_with, item_delta_with}
+use Rattle.lines.proofs.Rows.{cut_sum}
 use Rattle.lines.specs.LinesAnswers.{regions_at, row_from}
 
 -- The store's head and its region list are there, and the outer index is below the count of the subtables; offset is the list's.
@@ -126,6 +128,12 @@ module _ (font : List ℕ) (store outer inner : ℕ) (scalars : List ℤ) where
       unfolding item_sum_with
       list_short h short = from_items _ (passed font _ 3 _ _ (lt-ltb inner items h) (failed font _ 7 _ (lt-leb region_count (length scalars) short)))
 
-      pub summed : (w : Outcome ℤ) → inner < items → region_count ≤ length scalars → w ≡ run font (row_sum (scalar_from scalars) region_count row) → w ≡ delta
+      -- The list cut to a number for each region gives the same sum.
+      pub summed : (w : Outcome ℤ) → inner < items → region_count ≤ length scalars → w ≡ run font (row_sum (scalar_from (take region_count scalars)) (length (take region_count scalars)) row) → w ≡ delta
       unfolding item_sum_with
-      summed w h room e = from_items _ (passed font _ 3 _ _ (lt-ltb inner items h) (passed font _ 7 _ _ (le-leb region_count (length scalars) room) e))
+      summed w h room e =
+          let counted : length (take region_count scalars) ≡ region_count = length-take-le region_count scalars room in
+          from_items _
+          (passed font _ 3 _ _ (lt-ltb inner items h)
+          (passed font _ 7 _ _ (le-leb region_count (length scalars) room)
+          (rw counted at e ∙ cut_sum font scalars (record { regions = regions s.regions region_count regional; row = row }))))

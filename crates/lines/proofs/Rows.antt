@@ -2,23 +2,32 @@
 use Prim.Native.Nat.{ℕ, zero, suc, ◌+◌, ◌*◌, ◌≤◌, ◌<◌}
 use mathlib.Core.Path.{◌≡◌, refl, ap, sym, ◌∙◌}
 use mathlib.Core.Bool.{Bool, true, false, cond}
-use mathlib.Core.List.{List}
+use mathlib.Core.List.{List, []}
 use native.Mathlib.Omega.{arith}
 use borrow.Author.Tests.{lt-ltb, le-ltb, ltb-true}
+use Rattle.std.proofs.lemmas.List.{get_or_default}
 use lib.Dec.{ltb}
 use lib.IntN.{ℤ, pos, negsuc, ◌+ℤ◌, ◌*ℤ◌}
-use lib.ListN.{length, get_or}
+use lib.ListN.{length, get_or, take}
+use lib.Seq.{get_or-take}
 use mir.Syntax.{w8, w16, w32}
 use mir.Val.{SFits, to_z, of_z}
 use mir.ValLaws.{to_z-of_z}
 use Rattle.numbers.specs.Numbers.{wrap32}
 use Rattle.readers.specs.Outcome.{Outcome, value, refused}
 use Rattle.readers.specs.Reading.{Reading, answer, refuse, ◌>>=◌, unsigned_at, signed_at, big_endian, run}
-use Rattle.readers.proofs.Bytes.{present, missing, first}
-use Rattle.readers.proofs.Reading.{took_by, passed, failed, answered, declined}
-use Rattle.opentype.specs.Item.{Row, region_index_at, delta_at, row_turn}
+use Rattle.readers.proofs.Bytes.{present, missing}
+use Rattle.readers.proofs.Passed.{bytes_there, test_held, answer_is}
+use Rattle.store.proofs.SameParts.{Alike, Same, row_same}
+use Rattle.std.specs.Prelude.{Result, IsErr, IsErrAnd}
+use Rattle.numbers.specs.declared.Fixed.{Fixed}
+use Rattle.readers.specs.Answers.{refusal, outcome_fixed}
+use Rattle.readers.specs.declared.Refusal.{Refusal}
+use Rattle.readers.proofs.Reading.{run_nested, went_on_call, stopped_call, passed, failed, answered, declined}
+use Rattle.opentype.specs.Item.{Row, Item, region_index_at, delta_at, row_turn, row_sum}
+use Rattle.opentype.specs.Footprint.{Part}
 use Rattle.opentype.specs.Lines.{known, scalar_from}
-use Rattle.lines.specs.LinesAnswers.{entry_end}
+use Rattle.lines.specs.LinesAnswers.{named_scalar, entry_end}
 
 -- ---- an entry
 
@@ -27,9 +36,9 @@ module _ (font : List ℕ) (words p k : ℕ) where
   unfolding delta_at signed_at unsigned_at
   word_there h there = rw (lt-ltb k words h) (present 2 font (p + 2 * k) _ _ there (answered font _))
 
-  pub byte_there : words ≤ k → p + (words + k) + 1 ≤ length font → value (to_z w8 (get_or font (p + (words + k)) 0)) ≡ run font (delta_at words p k)
+  pub byte_there : words ≤ k → p + (words + k) + 1 ≤ length font → value (to_z w8 (big_endian 1 font (p + (words + k)))) ≡ run font (delta_at words p k)
   unfolding delta_at signed_at unsigned_at
-  byte_there h there = rw (le-ltb k words h) (present 1 font (p + (words + k)) _ _ there (rw (first font (p + (words + k))) (answered font _)))
+  byte_there h there = rw (le-ltb k words h) (present 1 font (p + (words + k)) _ _ there (answered font _))
 
   pub entry_missing : {A : Type 0} (f : ℤ → Reading A) → length font < entry_end words p k → refused 2 ≡ run font (delta_at words p k >>= f)
   unfolding delta_at signed_at unsigned_at
@@ -58,42 +67,76 @@ no_mark (pos n) h = refl
 no_mark (negsuc zero) h = absurd (h refl)
 no_mark (negsuc (suc n)) h = refl
 
+-- ---- the scalar that a region index names
+
+module _ (font : List ℕ) (scalars : List ℤ) (p region : ℕ) (there : p + 2 ≤ length font) (is : region ≡ big_endian 2 font p) where
+  pub index_large : length scalars ≤ region → refused 3 ≡ run font (named_scalar scalars p)
+  unfolding region_index_at unsigned_at
+  index_large h = present 2 font p _ _ there (rw (← is) (failed font _ 3 _ (le-ltb region (length scalars) h)))
+
+  module _ (below : region < length scalars) (z : ℤ) (kept : z ≡ get_or scalars region z) where
+    named : (w : Outcome ℤ) → w ≡ run font (known z) → w ≡ run font (named_scalar scalars p)
+    unfolding region_index_at unsigned_at
+    named w e = present 2 font p _ _ there (rw (← is) (passed font _ 3 _ _ (lt-ltb region (length scalars) below) (rw (← (kept ∙ get_or_default scalars region z (pos 0) below)) e)))
+
+    pub marked : SFits w32 z → of_z w32 z ≡ 4294967295 → refused 2 ≡ run font (named_scalar scalars p)
+    marked fits e = named _ (rw (mark_refused z fits e) (declined font 2))
+
+    pub found : (of_z w32 z ≡ 4294967295 → ⊥) → value z ≡ run font (named_scalar scalars p)
+    found h = named _ (rw (no_mark z h) (answered font z))
+
 -- ---- one region of a row
 
-module _ (font : List ℕ) (scalars : List ℤ) (region_count : ℕ) (row : Row) (k : ℕ) (sum : ℤ) (onward : ℤ → Reading ℤ) where
+module _ (font : List ℕ) (scalars : List ℤ) (row : Row) (k : ℕ) (sum : ℤ) (onward : ℤ → Reading ℤ) where
   abbrev at : ℕ
   at = row.region_indexes + 2 * k
 
   abbrev turn : Reading ℤ
-  turn = row_turn (scalar_from scalars) region_count row k sum onward
+  turn = row_turn (scalar_from scalars) (length scalars) row k sum onward
+
+  -- What is left once the scalar is known.
+  abbrev entered : ℤ → Reading ℤ
+  entered scalar = delta_at row.word_delta_count row.start k >>= λ delta. onward (wrap32 (sum +ℤ scalar *ℤ delta))
 
   pub index_cut : length font < at + 2 → refused 2 ≡ run font turn
   unfolding row_turn region_index_at unsigned_at
   index_cut h = missing 2 font at _ h
 
-  module _ (region : ℕ) (there : at + 2 ≤ length font) (is : region ≡ big_endian 2 font at) where
-    pub index_large : region_count ≤ region → refused 3 ≡ run font turn
-    unfolding row_turn region_index_at unsigned_at
-    index_large h = present 2 font at _ _ there (rw (← is) (failed font _ 3 _ (le-ltb region region_count h)))
+  pub scalar_stops : (r : Result Fixed Refusal) (n : Refusal) → IsErr r × IsErrAnd r (λ e. e ≡ n) → refusal n ≡ run font (named_scalar scalars at) → outcome_fixed r ≡ run font turn
+  unfolding row_turn
+  scalar_stops r n h e = stopped_call font (named_scalar scalars at) entered (λ x. x.0) r n h e ∙ run_nested font (region_index_at (length scalars) at) (scalar_from scalars) entered
 
-    -- The index is below the count: what is left is the scalar and the entry.
-    abbrev scaled : Reading ℤ
-    scaled = scalar_from scalars region >>= λ scalar. delta_at row.word_delta_count row.start k >>= λ delta. onward (wrap32 (sum +ℤ scalar *ℤ delta))
+  module _ (scalar : ℤ) (named : value scalar ≡ run font (named_scalar scalars at)) where
+    took : (w : Outcome ℤ) → w ≡ run font (entered scalar) → w ≡ run font turn
+    unfolding row_turn
+    took w e = went_on_call font (named_scalar scalars at) entered w named e ∙ run_nested font (region_index_at (length scalars) at) (scalar_from scalars) entered
 
-    named : (w : Outcome ℤ) → region < region_count → w ≡ run font scaled → w ≡ run font turn
-    unfolding row_turn region_index_at unsigned_at
-    named w h e = present 2 font at _ _ there (rw (← is) (passed font _ 3 _ _ (lt-ltb region region_count h) e))
+    pub entry_cut : length font < entry_end row.word_delta_count row.start k → refused 2 ≡ run font turn
+    entry_cut h = took _ (entry_missing font row.word_delta_count row.start k (λ delta. onward (wrap32 (sum +ℤ scalar *ℤ delta))) h)
 
-    module _ (below : region < region_count) where
-      abbrev kept : ℤ
-      kept = get_or scalars region (pos 0)
+    pub turned : (delta : ℤ) (w : Outcome ℤ) → value delta ≡ run font (delta_at row.word_delta_count row.start k) → w ≡ run font (onward (wrap32 (sum +ℤ scalar *ℤ delta))) → w ≡ run font turn
+    turned delta w d e = took w (went_on_call font (delta_at row.word_delta_count row.start k) (λ delta. onward (wrap32 (sum +ℤ scalar *ℤ delta))) w d e)
 
-      pub marked : SFits w32 kept → of_z w32 kept ≡ 4294967295 → refused 2 ≡ run font turn
-      marked fits e = named _ below (rw (mark_refused kept fits e) (declined font 2))
+-- ---- a row with the list cut to a number for each region
 
-      module _ (known-there : of_z w32 kept ≡ 4294967295 → ⊥) where
-        pub entry_cut : length font < entry_end row.word_delta_count row.start k → refused 2 ≡ run font turn
-        entry_cut h = named _ below (rw (no_mark kept known-there) (entry_missing font row.word_delta_count row.start k (λ delta. onward (wrap32 (sum +ℤ kept *ℤ delta))) h))
+-- A region index that was answered is below the count.
+pub index_below : (font : List ℕ) (count p region : ℕ) → run font (region_index_at count p) ≡ value region → region < count
+unfolding region_index_at unsigned_at
+index_below font count p region e =
+    let read = (bytes_there font 2 p _ region e).1 in
+    let held = test_held font _ _ _ region read in
+    let same : big_endian 2 font p ≡ region = answer_is font _ region held.1 in
+    rw same at (ltb-true (big_endian 2 font p) count held.0)
 
-        pub turned : (delta : ℤ) (w : Outcome ℤ) → value delta ≡ run font (delta_at row.word_delta_count row.start k) → w ≡ run font (onward (wrap32 (sum +ℤ kept *ℤ delta))) → w ≡ run font turn
-        turned delta w d e = named _ below (rw (no_mark kept known-there) (took_by value font (delta_at row.word_delta_count row.start k) (λ delta. onward (wrap32 (sum +ℤ kept *ℤ delta))) w d refl refl e))
+-- A font and coordinates are alike with themselves.
+pub itself : (font : List ℕ) (coords : List ℤ) (parts : List Part) → Alike font font coords coords parts
+itself font coords parts = record { over = λ j e. refl; on = λ axis e. refl }
+
+pub cut_sum : (font : List ℕ) (scalars : List ℤ) (item : Item)
+    → run font (row_sum (scalar_from (take item.regions.region_count scalars)) item.regions.region_count item.row) ≡ run font (row_sum (scalar_from scalars) item.regions.region_count item.row)
+unfolding Same
+cut_sum font scalars item =
+    let n = item.regions.region_count in
+    let same = row_same font font [] [] refl item (scalar_from (take n scalars)) (scalar_from scalars)
+    (λ region k rest names _. ap (λ (z : ℤ). run font (known z)) (get_or-take n scalars region (pos 0) (index_below font _ _ region names))) (itself font [] _) in
+    same.0

@@ -1,13 +1,29 @@
 -- What the numbers that functions hand to one another stand for.
-use Rattle.std.specs.Prelude.{ℕ, ◌+◌, ◌*◌, cond, ltb}
-use Rattle.opentype.specs.Item.{Regions, Row}
+use Rattle.std.specs.Prelude.{ℕ, ◌+◌, ◌*◌, cond, ltb, List, ℤ, length}
+use Rattle.readers.specs.Reading.{Reading, ◌>>=◌}
+use Rattle.opentype.specs.Item.{Regions, Row, region_index_at}
+use Rattle.opentype.specs.Lines.{scalar_from}
+use Rattle.lines.specs.declared.filling.RegionList.{RegionList}
+use Rattle.lines.specs.declared.item.Row as Code
 
 -- The region list at an offset from a store.
 abbrev pub regions_at : ℕ → ℕ → ℕ → ℕ → Regions
 regions_at store offset axis_count region_count = record { start = store + offset + 4; axis_count = axis_count; region_count = region_count }
 
+abbrev pub regions_of : RegionList → Regions
+regions_of l = regions_at l.store l.offset l.axis_count l.region_count
+
 abbrev pub row_from : ℕ → ℕ → ℕ → ℕ → Row
 row_from indexes count word_count start = record { region_indexes = indexes; region_index_count = count; word_delta_count = word_count; start = start }
+
+abbrev pub row_of : Code.Row → Row
+row_of r = row_from r.indexes r.count r.word_count r.start
+
+-- The scalar of the region that the index at p names, from a list that has a number for each region.
+abbrev pub named_scalar : List ℤ → ℕ → Reading ℤ
+named_scalar scalars p = do
+  region ← region_index_at (length scalars) p
+  scalar_from scalars region
 
 -- Where entry k of a row that starts at p ends: a word, or a byte.
 abbrev pub entry_end : ℕ → ℕ → ℕ → ℕ

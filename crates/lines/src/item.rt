@@ -5,101 +5,93 @@ ghost use Rattle.readers.specs.Reading.{run};
 ghost use Rattle.readers.specs.Answers.{outcome_fixed};
 ghost use Rattle.opentype.specs.Item.{delta_at, row_sum};
 ghost use Rattle.opentype.specs.Lines.{scalar_from, item_delta_with};
-ghost use Rattle.lines.specs.LinesAnswers.{row_from, entry_end};
+ghost use Rattle.lines.specs.LinesAnswers.{row_of, entry_end, named_scalar};
 
-use crate::bytes::{half_in, word_in};
-use numbers::{Fixed, as_i16};
-use readers::{FixedAnswer, Refusal};
+use numbers::Fixed;
+use readers::{FromBeData, Refusal};
 
-// Where entry k of the row at a position ends.
-fn entry_end(row: usize, word_count: u16, k: u16) -> usize
-    requires { row < 2 ^ 40 }
-    ensures { result ≡ entry_end word_count row k }
-{
-    if k < word_count {
-        return row + 2 * (k as usize) + 2;
-    }
-    row + ((word_count as usize) + (k as usize)) + 1
-}
-
-// Entry k, which is there.
-fn entry_in(font: &[u8], row: usize, word_count: u16, k: u16) -> i16
-    requires { entry_end word_count row k ≤ length font.now }
-    ensures { value result ≡ run font.now (delta_at word_count row k) }
-{
-    if k < word_count {
-        return as_i16(half_in(font, row + 2 * (k as usize)));
-    }
-    as_i16((font[row + ((word_count as usize) + (k as usize))] as u16) * 256) >> 8
-}
-
-// The sum over a row: of each region in turn its index, its scalar, its entry. Here all that it reads is there, ..
-fn whole_row(
-    font: &[u8],
-    region_count: u16,
+// A row, and the region indexes of its subtable: where each of the two starts, how many entries they have, and how many of the row's are words.
+#[derive(Clone, Copy)]
+struct Row {
     indexes: usize,
+    start: usize,
     count: u16,
     word_count: u16,
-    row: usize,
-    scalars: &[i32],
-) -> FixedAnswer
-    requires region_count_in_bounds { region_count ≤ length scalars.now }
-    requires row_in_bounds { (word_count ≤ count) × (indexes + 2 * count ≤ row) × (row + (count + word_count) ≤ length font.now) }
-    ensures { outcome_fixed result ≡ run font.now (row_sum (scalar_from scalars.now) region_count (row_from indexes count word_count row)) }
-{
-    let mut sum = Fixed::ZERO;
-    let mut k: u16 = 0;
-    while k < count {
-        let region = half_in(font, indexes + 2 * (k as usize));
-        if region >= region_count {
-            return FixedAnswer::Refused(Refusal::Index);
-        }
-        let scalar = scalars[region as usize];
-        if scalar == -1 {
-            return FixedAnswer::Refused(Refusal::Short);
-        }
-        sum = sum.add_product(Fixed(scalar), entry_in(font, row, word_count, k));
-        k += 1;
-    }
-    FixedAnswer::Value(sum)
 }
 
-// .. and here each read is tested.
-fn cut_row(
-    font: &[u8],
-    region_count: u16,
-    indexes: usize,
-    count: u16,
-    word_count: u16,
-    row: usize,
-    scalars: &[i32],
-) -> FixedAnswer
-    requires region_count_in_bounds { region_count ≤ length scalars.now }
-    requires indexes_and_row_bound { (indexes < 2 ^ 40) × (row < 2 ^ 40) }
-    ensures { outcome_fixed result ≡ run font.now (row_sum (scalar_from scalars.now) region_count (row_from indexes count word_count row)) }
-{
-    let mut sum = Fixed::ZERO;
-    let mut k: u16 = 0;
-    while k < count {
-        let at = indexes + 2 * (k as usize);
-        if font.len() < at + 2 {
-            return FixedAnswer::Refused(Refusal::Short);
+impl Row {
+    // Where entry k ends.
+    fn entry_end(self, k: u16) -> usize
+        requires { self.start < 2 ^ 40 }
+        ensures { result ≡ entry_end self.word_count self.start k }
+    {
+        if k < self.word_count {
+            return self.start + 2 * (k as usize) + 2;
         }
-        let region = half_in(font, at);
-        if region >= region_count {
-            return FixedAnswer::Refused(Refusal::Index);
-        }
-        let scalar = scalars[region as usize];
-        if scalar == -1 {
-            return FixedAnswer::Refused(Refusal::Short);
-        }
-        if font.len() < entry_end(row, word_count, k) {
-            return FixedAnswer::Refused(Refusal::Short);
-        }
-        sum = sum.add_product(Fixed(scalar), entry_in(font, row, word_count, k));
-        k += 1;
+        self.start + ((self.word_count as usize) + (k as usize)) + 1
     }
-    FixedAnswer::Value(sum)
+
+    // Entry k, which is there.
+    fn entry(self, font: &[u8], k: u16) -> i16
+        requires { entry_end self.word_count self.start k ≤ length font.now }
+        ensures { value result ≡ run font.now (delta_at self.word_count self.start k) }
+    {
+        if k < self.word_count {
+            return i16::from_be_data(font, self.start + 2 * (k as usize));
+        }
+        i16::from(i8::from_be_data(
+            font,
+            self.start + ((self.word_count as usize) + (k as usize)),
+        ))
+    }
+
+    // The scalar of the region that index k names; the index is there, and the list has a number for each region.
+    fn scalar(self, font: &[u8], k: u16, scalars: &[i32]) -> Result<Fixed, Refusal>
+        requires { self.indexes + 2 * k + 2 ≤ length font.now }
+        ensures { outcome_fixed result ≡ run font.now (named_scalar scalars.now (self.indexes + 2 * k)) }
+    {
+        let region = u16::from_be_data(font, self.indexes + 2 * (k as usize));
+        let Some(&scalar) = scalars.get(region as usize) else {
+            return Err(Refusal::Index);
+        };
+        // filling's mark of a region that could not be read
+        if scalar == -1 {
+            return Err(Refusal::Short);
+        }
+        Ok(Fixed(scalar))
+    }
+
+    // The sum over the row: of each region in turn its index, its scalar, its entry. Two loops, since a test for each read in the first is slower (measured: DECISIONS 120). Here all that it reads is there, ..
+    fn whole_sum(self, font: &[u8], scalars: &[i32]) -> Result<Fixed, Refusal>
+        requires { (self.word_count ≤ self.count) × (self.indexes + 2 * self.count ≤ self.start) × (self.start + (self.count + self.word_count) ≤ length font.now) }
+        ensures { outcome_fixed result ≡ run font.now (row_sum (scalar_from scalars.now) (length scalars.now) (row_of self)) }
+    {
+        let mut sum = Fixed::ZERO;
+        for k in 0..self.count {
+            let scalar = self.scalar(font, k, scalars)?;
+            sum = sum.add_product(scalar, self.entry(font, k));
+        }
+        Ok(sum)
+    }
+
+    // .. and here each read is tested.
+    fn cut_sum(self, font: &[u8], scalars: &[i32]) -> Result<Fixed, Refusal>
+        requires { (self.indexes < 2 ^ 40) × (self.start < 2 ^ 40) }
+        ensures { outcome_fixed result ≡ run font.now (row_sum (scalar_from scalars.now) (length scalars.now) (row_of self)) }
+    {
+        let mut sum = Fixed::ZERO;
+        for k in 0..self.count {
+            if font.len() < self.indexes + 2 * (k as usize) + 2 {
+                return Err(Refusal::Short);
+            }
+            let scalar = self.scalar(font, k, scalars)?;
+            if font.len() < self.entry_end(k) {
+                return Err(Refusal::Short);
+            }
+            sum = sum.add_product(scalar, self.entry(font, k));
+        }
+        Ok(sum)
+    }
 }
 
 // Returns a delta from an item variation store.
@@ -109,49 +101,55 @@ pub fn item_delta_with(
     outer: u32,
     inner: u16,
     scalars: &[i32],
-) -> FixedAnswer
+) -> Result<Fixed, Refusal>
     ensures { outcome_fixed result ≡ item_delta_with font.now store outer inner scalars.now }
 {
     if store == 0 {
-        return FixedAnswer::Refused(Refusal::Absent);
+        return Err(Refusal::Absent);
     }
     let base = store as usize;
     if font.len() < base + 8 {
-        return FixedAnswer::Refused(Refusal::Short);
+        return Err(Refusal::Short);
     }
-    if outer >= half_in(font, base + 6) as u32 {
-        return FixedAnswer::Refused(Refusal::Index);
+    if outer >= u16::from_be_data(font, base + 6) as u32 {
+        return Err(Refusal::Index);
     }
-    let list = base + (word_in(font, base + 2) as usize);
+    let list = base + u32::from_be_data(font, base + 2) as usize;
     if font.len() < list + 4 {
-        return FixedAnswer::Refused(Refusal::Short);
+        return Err(Refusal::Short);
     }
     let at = base + 8 + 4 * (outer as usize);
     if font.len() < at + 4 {
-        return FixedAnswer::Refused(Refusal::Short);
+        return Err(Refusal::Short);
     }
-    let subtable = base + (word_in(font, at) as usize);
+    let subtable = base + u32::from_be_data(font, at) as usize;
     if font.len() < subtable + 6 {
-        return FixedAnswer::Refused(Refusal::Short);
+        return Err(Refusal::Short);
     }
-    let count = half_in(font, subtable + 4);
-    let word_count = half_in(font, subtable + 2);
+    let count = u16::from_be_data(font, subtable + 4);
+    let word_count = u16::from_be_data(font, subtable + 2);
     if word_count > count {
-        return FixedAnswer::Refused(Refusal::Arithmetic);
+        return Err(Refusal::Arithmetic);
     }
-    if inner >= half_in(font, subtable) {
-        return FixedAnswer::Refused(Refusal::Index);
+    if inner >= u16::from_be_data(font, subtable) {
+        return Err(Refusal::Index);
     }
-    let region_count = half_in(font, list + 2);
-    if scalars.len() < (region_count as usize) {
-        return FixedAnswer::Refused(Refusal::Room);
+    let region_count = u16::from_be_data(font, list + 2) as usize;
+    if scalars.len() < region_count {
+        return Err(Refusal::Room);
     }
+    let scalars = &scalars[..region_count];
     let indexes = subtable + 6;
-    let row = indexes
-        + 2 * (count as usize)
-        + (inner as usize) * ((count as usize) + (word_count as usize));
-    if font.len() < row + ((count as usize) + (word_count as usize)) {
-        return cut_row(font, region_count, indexes, count, word_count, row, scalars);
+    let size = (count as usize) + (word_count as usize);
+    let start = indexes + 2 * (count as usize) + (inner as usize) * size;
+    let row = Row {
+        indexes,
+        start,
+        count,
+        word_count,
+    };
+    if font.len() < start + size {
+        return row.cut_sum(font, scalars);
     }
-    whole_row(font, region_count, indexes, count, word_count, row, scalars)
+    row.whole_sum(font, scalars)
 }

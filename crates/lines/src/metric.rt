@@ -1,64 +1,57 @@
 // The delta of a glyph's advance or bearing, by HVAR or VVAR, with the scalars of the table's store in a list.
-ghost use Rattle.std.specs.Prelude.{◌≡◌, min};
+ghost use Rattle.std.specs.Prelude.{◌≡◌};
 ghost use Rattle.readers.specs.Reading.{run};
 ghost use Rattle.readers.specs.Answers.{outcome_fixed};
 ghost use Rattle.opentype.specs.Metric.{advance, bearing, float_of};
 ghost use Rattle.opentype.specs.Lines.{metric_delta_with};
 ghost use Rattle.store.specs.MetricAnswers.{measure_of, place_of, place_outcome};
 
-use crate::bytes::{ending_in, half_in, word_in};
+use crate::bytes::ending_in;
 use crate::item::item_delta_with;
-use readers::{FixedAnswer, Refusal, Word};
-use store::metric::{Measure, Place, PlaceAnswer, float_of, map_field, store_of};
-
-fn least(a: u16, b: u16) -> u16
-    ensures { result ≡ min a b }
-{
-    if a < b { a } else { b }
-}
+use numbers::Fixed;
+use readers::{FromBeData, Refusal};
+use store::metric::{Measure, Place, float_of, map_field, store_of};
 
 // Where the HVAR or VVAR at base has the delta of a glyph's measure.
-fn place_in(font: &[u8], base: u32, measure: Measure, glyph_id: u16) -> PlaceAnswer
+fn place_in(font: &[u8], base: u32, measure: Measure, glyph_id: u16) -> Result<Place, Refusal>
     ensures { place_outcome result ≡ run font.now (place_of base (measure_of measure) glyph_id) }
 {
-    let store = match store_of(font, base) {
-        Word::Value(x) => x,
-        Word::Refused(n) => return PlaceAnswer::Refused(n),
-    };
+    let store = store_of(font, base)?;
     let field = (base as usize) + map_field(measure);
     if font.len() < field + 4 {
-        return PlaceAnswer::Refused(Refusal::Short);
+        return Err(Refusal::Short);
     }
-    let offset = word_in(font, field);
+    let offset = u32::from_be_data(font, field);
     if offset == 0 {
         return match measure {
-            Measure::Advance => PlaceAnswer::Value(Place {
+            Measure::Advance => Ok(Place {
                 store,
                 outer: 0,
                 inner: glyph_id,
             }),
-            Measure::Bearing => PlaceAnswer::Refused(Refusal::Absent),
+            Measure::Bearing => Err(Refusal::Absent),
         };
     }
     let map = (base as usize) + (offset as usize);
     if font.len() < map + 4 {
-        return PlaceAnswer::Refused(Refusal::Short);
+        return Err(Refusal::Short);
     }
-    let format = half_in(font, map);
-    let count = half_in(font, map + 2);
+    let format = u16::from_be_data(font, map);
+    let count = u16::from_be_data(font, map + 2);
     if count == 0 {
-        return PlaceAnswer::Refused(Refusal::Arithmetic);
+        return Err(Refusal::Arithmetic);
     }
-    let index = least(glyph_id, count - 1) as usize;
+    // a glyph past the last entry uses that
+    let index = glyph_id.min(count - 1) as usize;
     // the entry's bytes behind its first
     let more = format / 16 % 4;
     let last = map + 4 + ((more as usize) + 1) * index + (more as usize);
     if font.len() <= last {
-        return PlaceAnswer::Refused(Refusal::Short);
+        return Err(Refusal::Short);
     }
     let entry = ending_in(font, last, more);
     let bits = (format % 16 + 1) as u32;
-    PlaceAnswer::Value(Place {
+    Ok(Place {
         store,
         outer: (entry >> bits) % 0x1_0000,
         inner: (entry & ((1 << bits) - 1)) as u16,
@@ -72,18 +65,11 @@ pub fn metric_delta_with(
     measure: Measure,
     glyph_id: u16,
     scalars: &[i32],
-) -> FixedAnswer
+) -> Result<Fixed, Refusal>
     ensures { outcome_fixed result ≡ metric_delta_with font.now base (measure_of measure) glyph_id scalars.now }
 {
-    match place_in(font, base, measure, glyph_id) {
-        PlaceAnswer::Value(p) => {
-            let store = p.store;
-            let outer = p.outer;
-            let inner = p.inner;
-            item_delta_with(font, store, outer, inner, scalars)
-        }
-        PlaceAnswer::Refused(n) => FixedAnswer::Refused(n),
-    }
+    let place = place_in(font, base, measure, glyph_id)?;
+    item_delta_with(font, place.store, place.outer, place.inner, scalars)
 }
 
 // The delta of an advance, as an answer and as a float.
@@ -92,7 +78,7 @@ pub fn advance_delta_fixed_with(
     xvar: u32,
     glyph_id: u16,
     scalars: &[i32],
-) -> FixedAnswer
+) -> Result<Fixed, Refusal>
     ensures { outcome_fixed result ≡ metric_delta_with font.now xvar advance glyph_id scalars.now }
 {
     metric_delta_with(font, xvar, Measure::Advance, glyph_id, scalars)
@@ -105,7 +91,12 @@ pub fn advance_delta_with(font: &[u8], xvar: u32, glyph_id: u16, scalars: &[i32]
 }
 
 // The delta of a side bearing, in the same way.
-pub fn sb_delta_fixed_with(font: &[u8], xvar: u32, glyph_id: u16, scalars: &[i32]) -> FixedAnswer
+pub fn sb_delta_fixed_with(
+    font: &[u8],
+    xvar: u32,
+    glyph_id: u16,
+    scalars: &[i32],
+) -> Result<Fixed, Refusal>
     ensures { outcome_fixed result ≡ metric_delta_with font.now xvar bearing glyph_id scalars.now }
 {
     metric_delta_with(font, xvar, Measure::Bearing, glyph_id, scalars)

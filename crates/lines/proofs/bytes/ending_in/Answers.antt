@@ -10,4 +10,4 @@ pub returns : goal.returns
 returns c =
     let a = c.args in
     let there : a.last - 3 + 3 ≡ a.last = omega arith in
-    rw c.word_in.ensures (low_bytes _ (λ j. (c.type_inv.font j).fits) (a.last - 3) a.more (omega arith) ∙ ap (λ l. big_endian (a.more + 1) a.font.now (l - a.more)) there)
+    rw c.from_be_data.ensures (low_bytes _ (λ j. (c.type_inv.font j).fits) (a.last - 3) a.more (omega arith) ∙ ap (λ l. big_endian (a.more + 1) a.font.now (l - a.more)) there)

@@ -18,7 +18,7 @@ returns-then-font-base c =
 pub returns-then-font-list : goal.returns-then-font-list
 returns-then-font-list c =
     let a = c.args in
-    let left = fill_left a.font.now a.store a.coords.now a.scalars.now 2 (list_cut _ _ _ c.if-store-eq0.false c.if-font-base.false _ c.word_in-offset.ensures c.if-font-list.true) in
+    let left = fill_left a.font.now a.store a.coords.now a.scalars.now 2 (list_cut _ _ _ c.if-store-eq0.false c.if-font-base.false _ c.from_be_data-offset.ensures c.if-font-list.true) in
     record { count = left.0; list = left.1 }
 
 pub returns-then-scalars-region_count : goal.returns-then-scalars-region_count
@@ -26,14 +26,14 @@ returns-then-scalars-region_count c =
     let a = c.args in
     let left =
     fill_left a.font.now a.store a.coords.now a.scalars.now 7
-    (room_short _ _ _ c.if-store-eq0.false c.if-font-base.false _ c.word_in-offset.ensures c.if-font-list.false _ _ c.half_in-axis_count.ensures c.half_in-region_count.ensures c.if-scalars-region_count.true) in
+    (room_short _ _ _ c.if-store-eq0.false c.if-font-base.false _ c.from_be_data-offset.ensures c.if-font-list.false _ _ c.from_be_data-axis_count.ensures c.from_be_data-region_count.ensures c.if-scalars-region_count.true) in
     record { count = left.0; list = left.1 }
 
 pub returns : goal.returns
 returns c =
     let a = c.args in
     let wrote =
-    fill_wrote a.font.now a.store a.coords.now a.scalars.now (regions_at _ c.word_in-offset.result c.half_in-axis_count.result c.half_in-region_count.result) _
-    (roomed _ _ _ c.if-store-eq0.false c.if-font-base.false _ c.word_in-offset.ensures c.if-font-list.false _ _ c.half_in-axis_count.ensures c.half_in-region_count.ensures c.if-scalars-region_count.false)
+    fill_wrote a.font.now a.store a.coords.now a.scalars.now (regions_at _ c.from_be_data-offset.result c.from_be_data-axis_count.result c.from_be_data-region_count.result) _
+    (roomed _ _ _ c.if-store-eq0.false c.if-font-base.false _ c.from_be_data-offset.ensures c.if-font-list.false _ _ c.from_be_data-axis_count.ensures c.from_be_data-region_count.ensures c.if-scalars-region_count.false)
     c.write_scalars.ensures in
     record { count = wrote.0; list = wrote.1 }

@@ -5,7 +5,7 @@ use mathlib.Core.List.{List}
 use native.Mathlib.Omega.{arith}
 use lib.ListN.{length}
 use Rattle.readers.specs.Reading.{big_endian}
-use Rattle.readers.proofs.Reading.{took32, stop32, answered, declined}
+use Rattle.readers.proofs.Reading.{went_on_call, stopped_call, answered, declined}
 use Rattle.opentype.specs.Metric.{Measure, map_field}
 use Rattle.store.specs.MetricAnswers.{place_of}
 use Rattle.store.proofs.Entries.{entry_near, shifted_positive, low_bits, low_bits_small}
@@ -22,43 +22,43 @@ module _ (font : List ℕ) (base offset told : ℕ) (measure : Measure) (is : to
   mapped format count some head formed counted = record { field = field; some = some; head = head; format = format; count = count; formed = formed; counted = counted }
 
 -- How far the entry is from the first, so that no position wraps.
-near : (c : goal.After-least-index) → (c.half_in-format.result / 16 % 4 + 1) * c.least-index.result < 2 ^ 18
+near : (c : goal.After-min-index) → (c.from_be_data-format.result / 16 % 4 + 1) * c.min-index.result < 2 ^ 18
 near c = entry_near _ _ (omega arith) (omega arith)
 
-pub returns-in-Refused : goal.returns-in-Refused
+pub returns-in_err-store : goal.returns-in_err-store
 unfolding place_of
-returns-in-Refused c = stop32 _ _ _ c.store_of.ensures c.in-Refused.is
+returns-in_err-store c = stopped_call _ _ _ _ _ _ c.from_residual.ensures c.in_err-store.ensures
 
 pub returns-then-font-field : goal.returns-then-font-field
 unfolding place_of
 returns-then-font-field c =
-    took32 _ _ _ _ c.store_of.ensures c.in-Value.is
+    went_on_call _ _ _ _ c.in_ok-store.ensures
     (field_cut _ _ _ _ _ (rw c.map_field.ensures.0 at c.if-font-field.true))
 
 pub returns-in-Advance : goal.returns-in-Advance
 unfolding place_of
 returns-in-Advance c =
-    took32 _ _ _ _ c.store_of.ensures c.in-Value.is
-    (no_map _ _ _ _ _ (field _ _ _ _ _ c.map_field.ensures.0 c.if-font-field.false c.word_in-offset.ensures) _ c.if-offset-eq0.true (rw c.in-Advance.is (answered _ _)))
+    went_on_call _ _ _ _ c.in_ok-store.ensures
+    (no_map _ _ _ _ _ (field _ _ _ _ _ c.map_field.ensures.0 c.if-font-field.false c.from_be_data-offset.ensures) _ c.if-offset-eq0.true (rw c.in-Advance.is (answered _ _)))
 
 pub returns-in-Bearing : goal.returns-in-Bearing
 unfolding place_of
 returns-in-Bearing c =
-    took32 _ _ _ _ c.store_of.ensures c.in-Value.is
-    (no_map _ _ _ _ _ (field _ _ _ _ _ c.map_field.ensures.0 c.if-font-field.false c.word_in-offset.ensures) _ c.if-offset-eq0.true (rw c.in-Bearing.is (declined _ _)))
+    went_on_call _ _ _ _ c.in_ok-store.ensures
+    (no_map _ _ _ _ _ (field _ _ _ _ _ c.map_field.ensures.0 c.if-font-field.false c.from_be_data-offset.ensures) _ c.if-offset-eq0.true (rw c.in-Bearing.is (declined _ _)))
 
 pub returns-then-font-map : goal.returns-then-font-map
 unfolding place_of
 returns-then-font-map c =
-    took32 _ _ _ _ c.store_of.ensures c.in-Value.is
-    (map_cut _ _ _ _ _ (field _ _ _ _ _ c.map_field.ensures.0 c.if-font-field.false c.word_in-offset.ensures) c.if-offset-eq0.false c.if-font-map.true)
+    went_on_call _ _ _ _ c.in_ok-store.ensures
+    (map_cut _ _ _ _ _ (field _ _ _ _ _ c.map_field.ensures.0 c.if-font-field.false c.from_be_data-offset.ensures) c.if-offset-eq0.false c.if-font-map.true)
 
 pub returns-then-count-eq0 : goal.returns-then-count-eq0
 unfolding place_of
 returns-then-count-eq0 c =
-    took32 _ _ _ _ c.store_of.ensures c.in-Value.is
+    went_on_call _ _ _ _ c.in_ok-store.ensures
     (map_empty _ _ _ _ _
-    (mapped _ _ _ _ _ c.map_field.ensures.0 c.if-font-field.false c.word_in-offset.ensures _ _ c.if-offset-eq0.false c.if-font-map.false c.half_in-format.ensures c.half_in-count.ensures)
+    (mapped _ _ _ _ _ c.map_field.ensures.0 c.if-font-field.false c.from_be_data-offset.ensures _ _ c.if-offset-eq0.false c.if-font-map.false c.from_be_data-format.ensures c.from_be_data-count.ensures)
     c.if-count-eq0.true)
 
 pub overflow_mul-last : goal.overflow_mul-last
@@ -73,27 +73,27 @@ overflow_add-last-4 c = omega (arith, near c)
 pub returns-then-font-last : goal.returns-then-font-last
 unfolding place_of
 returns-then-font-last c =
-    let cut = rw c.least-index.ensures at c.if-font-last.true in
-    took32 _ _ _ _ c.store_of.ensures c.in-Value.is
+    let cut = rw c.min-index.ensures at c.if-font-last.true in
+    went_on_call _ _ _ _ c.in_ok-store.ensures
     (entry_cut _ _ _ _ _
-    (mapped _ _ _ _ _ c.map_field.ensures.0 c.if-font-field.false c.word_in-offset.ensures _ _ c.if-offset-eq0.false c.if-font-map.false c.half_in-format.ensures c.half_in-count.ensures)
+    (mapped _ _ _ _ _ c.map_field.ensures.0 c.if-font-field.false c.from_be_data-offset.ensures _ _ c.if-offset-eq0.false c.if-font-map.false c.from_be_data-format.ensures c.from_be_data-count.ensures)
     c.if-count-eq0.false (omega (arith, cut)))
 
 pub overflow_sub-result : goal.overflow_sub-result
 overflow_sub-result c = shifted_positive 0 _ (omega arith)
 
 pub overflow_cast-result : goal.overflow_cast-result
-overflow_cast-result c = record { fits = low_bits_small c.ending_in-entry.result (c.half_in-format.result % 16 + 1) (omega arith) }
+overflow_cast-result c = record { fits = low_bits_small c.ending_in-entry.result (c.from_be_data-format.result % 16 + 1) (omega arith) }
 
 pub returns : goal.returns
 unfolding place_of
 returns c =
-    let there = rw c.least-index.ensures at c.if-font-last.false in
-    let format = c.half_in-format.result in
-    let first = c.args.base + c.word_in-offset.result + 4 + (format / 16 % 4 + 1) * c.least-index.result in
+    let there = rw c.min-index.ensures at c.if-font-last.false in
+    let format = c.from_be_data-format.result in
+    let first = c.args.base + c.from_be_data-offset.result + 4 + (format / 16 % 4 + 1) * c.min-index.result in
     let back : first + format / 16 % 4 - format / 16 % 4 ≡ first = omega arith in
-    took32 _ _ _ _ c.store_of.ensures c.in-Value.is
-    (rw (low_bits c.ending_in-entry.result (format % 16 + 1) (omega arith), c.ending_in-entry.ensures, back, c.least-index.ensures)
+    went_on_call _ _ _ _ c.in_ok-store.ensures
+    (rw (low_bits c.ending_in-entry.result (format % 16 + 1) (omega arith), c.ending_in-entry.ensures, back, c.min-index.ensures)
     (entered _ _ _ _ _
-    (mapped _ _ _ _ _ c.map_field.ensures.0 c.if-font-field.false c.word_in-offset.ensures _ _ c.if-offset-eq0.false c.if-font-map.false c.half_in-format.ensures c.half_in-count.ensures)
+    (mapped _ _ _ _ _ c.map_field.ensures.0 c.if-font-field.false c.from_be_data-offset.ensures _ _ c.if-offset-eq0.false c.if-font-map.false c.from_be_data-format.ensures c.from_be_data-count.ensures)
     c.if-count-eq0.false (omega (arith, there))))

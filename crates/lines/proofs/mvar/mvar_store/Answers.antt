@@ -1,15 +1,12 @@
 -- `lines::mvar::mvar_store` meets its contract. Assumes nothing.
-use mathlib.Core.Path.{refl}
-use Rattle.readers.proofs.Reading.{took_by, stop_by, answered}
-use Rattle.opentype.specs.Mvar.{header_at}
+use Rattle.readers.proofs.Reading.{went_on_call, stopped_call, answered}
 use Rattle.opentype.specs.Lines.{mvar_store}
-use Rattle.store.specs.MvarAnswers.{header_outcome}
 use Rattle.lines.proofs.mvar.mvar_store.Goals as goal
 
-pub returns-in-Value : goal.returns-in-Value
+pub returns-in_err-mvar_header : goal.returns-in_err-mvar_header
 unfolding mvar_store
-returns-in-Value c = took_by header_outcome _ header_at _ _ c.mvar_header.ensures c.in-Value.is refl (answered _ _)
+returns-in_err-mvar_header c = stopped_call _ _ _ _ _ _ c.from_residual.ensures c.in_err-mvar_header.ensures
 
-pub returns-in-Refused : goal.returns-in-Refused
+pub returns : goal.returns
 unfolding mvar_store
-returns-in-Refused c = stop_by header_outcome _ header_at _ c.mvar_header.ensures c.in-Refused.is refl
+returns c = went_on_call _ _ _ _ c.in_ok-mvar_header.ensures (answered _ _)

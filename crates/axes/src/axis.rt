@@ -23,6 +23,17 @@ pub struct VarAxis {
 }
 
 impl VarAxis {
+    // What stands for an axis that cannot be read.
+    pub const NONE: VarAxis = VarAxis {
+        index: 0,
+        tag: 0,
+        name_id: 0,
+        flags: 0,
+        min: Fixed::ZERO,
+        default: Fixed::ZERO,
+        max: Fixed::ZERO,
+    };
+
     // Whether the axis should be hidden in a user interface.
     pub fn is_hidden(self) -> bool
         ensures { result ≡ hidden (axis_of self) }

@@ -29,6 +29,15 @@ pub struct VarInstance {
     pub postscript_name_id: Option<u16>,
 }
 
+impl VarInstance {
+    // What stands for an instance that cannot be read.
+    pub const NONE: VarInstance = VarInstance {
+        index: 0,
+        name_id: 0,
+        postscript_name_id: None,
+    };
+}
+
 // An instance's name id, and where its values start.
 #[derive(Clone, Copy)]
 struct Record {

@@ -12,17 +12,6 @@ use crate::fvar::{Fvar, value_or_zero};
 use numbers::{F2Dot14, Fixed};
 use readers::Refusal;
 
-// The axis that cannot be read, where an instance's values are normalised.
-const NO_AXIS: VarAxis = VarAxis {
-    index: 0,
-    tag: 0,
-    name_id: 0,
-    flags: 0,
-    min: Fixed::ZERO,
-    default: Fixed::ZERO,
-    max: Fixed::ZERO,
-};
-
 // The coordinates of the first count axes, at most 32, in the first elements of out; answers how many. They wait in a list of their own
 // until none is refused, and none is worked out twice.
 fn few_coords<F: Fn(u16) -> Result<F2Dot14, Refusal>>(
@@ -143,7 +132,7 @@ fn value_coord(
 ) -> Result<F2Dot14, Refusal>
     ensures { outcome_f2_dot14 result ≡ value_coord table.now (header fvar) font.now avar part.now i }
 {
-    let axis = fvar.get_axis(table, i).unwrap_or(NO_AXIS);
+    let axis = fvar.get_axis(table, i).unwrap_or(VarAxis::NONE);
     axis.normalized_coord(value_or_zero(part, i), font, avar)
 }
 

@@ -8,7 +8,7 @@ ghost use Rattle.axes.specs.FvarAnswers.{header};
 ghost use Rattle.lister.specs.Listing.{axis_text, table_text, listing, over, Leads};
 
 use arrayvec::ArrayVec;
-use axes::fvar::{AxisAnswer, Fvar};
+use axes::fvar::Fvar;
 use listing::{Axis, Line, ROOM as LINE_ROOM};
 use std::io;
 use std::io::{Read, Write};
@@ -38,7 +38,7 @@ fn line_of(table: &[u8], fvar: Fvar, index: u16) -> Line
     ensures { result.items ≡ axis_text table.now (header fvar) index }
 {
     match fvar.get_axis(table, index) {
-        AxisAnswer::Value(a) => listing::axis_line(Axis {
+        Ok(a) => listing::axis_line(Axis {
             index,
             tag: a.tag,
             min: a.min.0,
@@ -47,7 +47,7 @@ fn line_of(table: &[u8], fvar: Fvar, index: u16) -> Line
             flags: a.flags,
             name_id: a.name_id,
         }),
-        AxisAnswer::Refused(n) => listing::refused_line(index, readers::number(n)),
+        Err(refusal) => listing::refused_line(index, refusal.into()),
     }
 }
 

@@ -28,7 +28,7 @@ pub(crate) fn unvaried(
 }
 
 // The advance width or height by the hmtx or vmtx and the HVAR or VVAR at two offsets. Where the second is 0, or the delta is refused, 0.0 is added.
-// Advance and bearing have a body each: one function over the measure is not inlined, and a width takes 49 instructions more by it (DECISIONS 110).
+// Advance and bearing have a body each: one function over the measure is not inlined, and a width took 49 instructions more by it (DECISIONS 110).
 pub fn adjusted_advance(
     font: &[u8],
     xmtx: u32,

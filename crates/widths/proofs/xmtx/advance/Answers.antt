@@ -18,4 +18,4 @@ unfolding advance_at unsigned_at
 returns c =
     passed _ _ _ _ _ (rw (ne_eqb _ _ c.if-long_metric_count-eq0.false))
     (passed _ _ _ _ _ (rw (ne_eqb _ _ c.if-xmtx-eq0.false))
-    (rw (← c.min-record.ensures) c.read.ensures))
+    (rw c.min-record.ensures at c.read.ensures))

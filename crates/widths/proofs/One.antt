@@ -1,12 +1,6 @@
 -- No second answer: for each public function, two answers that its contract allows are the same. Assumes nothing.
-use mathlib.Core.Path.{◌≡◌, refl, ap}
-use lib.Ieee.{Float}
 use Rattle.numbers.specs.One.{One}
-use Rattle.readers.specs.Outcome.{Outcome}
-use Rattle.readers.proofs.One.{refusal_back, back, one_by, one16, one_i16}
-use Rattle.widths.specs.Answers.{outcome_f32}
-use Rattle.widths.specs.declared.adjusted.FloatAnswer.{FloatAnswer}
-use Rattle.widths.specs.declared.adjusted.FloatAnswer.TheVariants as F
+use Rattle.readers.proofs.One.{one_plain}
 use Rattle.widths.proofs.xmtx.advance.Reads as advance
 use Rattle.widths.proofs.xmtx.sb.Reads as sb
 use Rattle.widths.proofs.vorg.origin.Reads as origin
@@ -18,39 +12,32 @@ use Rattle.widths.proofs.glyph.advance_height.Reads as advance-height
 use Rattle.widths.proofs.glyph.tsb.Reads as tsb
 use Rattle.widths.proofs.glyph.vertical_origin.Reads as vertical-origin
 
-back_f32 : (r : FloatAnswer) → back F.Value F.Refused (outcome_f32 r) ≡ r
-back_f32 (F.Value x) = refl
-back_f32 (F.Refused n) = ap F.Refused (refusal_back n)
-
-pub one_f32 : {d : Outcome Float} {r r' : FloatAnswer} → outcome_f32 r ≡ d → outcome_f32 r' ≡ d → r ≡ r'
-one_f32 p q = one_by outcome_f32 F.Value F.Refused back_f32 p q
-
 pub advance_one : One advance.Post
-advance_one κs a r r' s s' p q = one16 p q
+advance_one κs a r r' s s' p q = one_plain p q
 
 pub sb_one : One sb.Post
-sb_one κs a r r' s s' p q = one_i16 p q
+sb_one κs a r r' s s' p q = one_plain p q
 
 pub origin_one : One origin.Post
-origin_one κs a r r' s s' p q = one_i16 p q
+origin_one κs a r r' s s' p q = one_plain p q
 
 pub adjusted_advance_one : One adjusted-advance.Post
-adjusted_advance_one κs a r r' s s' p q = one_f32 p q
+adjusted_advance_one κs a r r' s s' p q = one_plain p q
 
 pub adjusted_sb_one : One adjusted-sb.Post
-adjusted_sb_one κs a r r' s s' p q = one_f32 p q
+adjusted_sb_one κs a r r' s s' p q = one_plain p q
 
 pub advance_width_one : One advance-width.Post
-advance_width_one κs a r r' s s' p q = one_f32 p q
+advance_width_one κs a r r' s s' p q = one_plain p q
 
 pub lsb_one : One lsb.Post
-lsb_one κs a r r' s s' p q = one_f32 p q
+lsb_one κs a r r' s s' p q = one_plain p q
 
 pub advance_height_one : One advance-height.Post
-advance_height_one κs a r r' s s' p q = one_f32 p q
+advance_height_one κs a r r' s s' p q = one_plain p q
 
 pub tsb_one : One tsb.Post
-tsb_one κs a r r' s s' p q = one_f32 p q
+tsb_one κs a r r' s s' p q = one_plain p q
 
 pub vertical_origin_one : One vertical-origin.Post
-vertical_origin_one κs a r r' s s' p q = one_f32 p q
+vertical_origin_one κs a r r' s s' p q = one_plain p q

@@ -1,15 +1,19 @@
 -- `widths::adjusted::adjusted_sb` meets its contract. Assumes nothing.
-use mathlib.Core.Path.{refl, ap}
+use mathlib.Core.Path.{refl, ap, ◌∙◌}
+use native.Mathlib.Omega.{arith}
+use mir.Syntax.{w16}
+use mir.ValLaws.{to_z-of_z}
 use Rattle.readers.specs.Outcome.{value}
 use Rattle.readers.proofs.Outcome.{onward_by, halt_by}
-use Rattle.widths.specs.Adjusted.{adjusted_at}
-use Rattle.widths.specs.Answers.{outcome_f32}
+use Rattle.readers.proofs.Reading.{went_on_call, handed_on, stop_by, answered}
+use Rattle.widths.specs.Adjusted.{unvaried_at, adjusted_at}
 use Rattle.widths.proofs.adjusted.adjusted_sb.Goals as goal
 
-pub returns-in-Value : goal.returns-in-Value
-unfolding adjusted_at
-returns-in-Value c = onward_by outcome_f32 _ _ _ c.unvaried_sb.ensures c.in-Value.is refl (ap value c.varied.ensures)
+pub returns-in_err-sb : goal.returns-in_err-sb
+unfolding unvaried_at adjusted_at
+returns-in_err-sb c = handed_on (λ x. x) _ _ c.from_residual.ensures ∙ halt_by (λ o. o) _ _ (stop_by (λ o. o) _ _ _ c.in_err-sb.ensures refl refl) refl refl
 
-pub returns-in-Refused : goal.returns-in-Refused
-unfolding adjusted_at
-returns-in-Refused c = halt_by outcome_f32 _ _ c.unvaried_sb.ensures c.in-Refused.is refl
+pub returns : goal.returns
+unfolding unvaried_at adjusted_at
+returns c =
+    onward_by (λ o. o) _ _ _ (went_on_call _ _ _ _ c.in_ok-sb.ensures (answered _ _)) refl refl (ap value (rw (c.from-unvaried.ensures, to_z-of_z w16 c.in_ok-sb.field-0 (record { sfits = omega arith })) at c.varied.ensures))

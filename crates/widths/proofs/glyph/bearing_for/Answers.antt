@@ -1,15 +1,10 @@
 -- `widths::glyph::bearing_for` meets its contract. Assumes nothing.
+use mathlib.Core.Logic.{inl, inr}
 use Rattle.readers.proofs.Reading.{answered}
 use Rattle.widths.proofs.glyph.bearing_for.Goals as goal
 
-pub returns-in-Known : goal.returns-in-Known
-returns-in-Known c = rw (c.in-VmtxGlyf.is, c.in-Known.is) c.sb.ensures
-
-pub returns-in-Missing : goal.returns-in-Missing
-returns-in-Missing c = rw (c.in-VmtxGlyf.is, c.in-Missing.is) (answered _ _)
+pub returns-in-None : goal.returns-in-None
+returns-in-None c = rw (c.in-VmtxGlyf.is, c.in-None.is) (answered _ _)
 
 pub returns-in-VmtxVorg : goal.returns-in-VmtxVorg
-returns-in-VmtxVorg c = rw c.in-VmtxVorg.is (answered _ _)
-
-pub returns-in-Synthesized : goal.returns-in-Synthesized
-returns-in-Synthesized c = rw c.in-Synthesized.is (answered _ _)
+returns-in-VmtxVorg c = elim c.in-VmtxVorg.is [ inl v ↦ rw v.4 (answered _ _) | inr v ↦ rw v.3 (answered _ _) ]

@@ -1,15 +1,15 @@
 -- `widths::glyph::upright` meets its contract. Assumes nothing.
-use mathlib.Core.Path.{refl, ap}
+use mathlib.Core.Path.{refl, ap, ◌∙◌}
 use Rattle.readers.specs.Outcome.{value}
 use Rattle.readers.proofs.Outcome.{onward_by, halt_by}
+use Rattle.readers.proofs.Reading.{handed_on}
 use Rattle.widths.specs.Glyph.{read_upright}
-use Rattle.widths.specs.Answers.{outcome_f32}
 use Rattle.widths.proofs.glyph.upright.Goals as goal
 
-pub returns-in-Value : goal.returns-in-Value
+pub returns-in_err-unvaried : goal.returns-in_err-unvaried
 unfolding read_upright
-returns-in-Value c = onward_by outcome_f32 _ _ _ c.unvaried_upright.ensures c.in-Value.is refl (ap value c.upright.ensures)
+returns-in_err-unvaried c = handed_on (λ x. x) _ _ c.from_residual.ensures ∙ halt_by (λ o. o) _ _ c.in_err-unvaried.ensures refl refl
 
-pub returns-in-Refused : goal.returns-in-Refused
+pub returns : goal.returns
 unfolding read_upright
-returns-in-Refused c = halt_by outcome_f32 _ _ c.unvaried_upright.ensures c.in-Refused.is refl
+returns c = onward_by (λ o. o) _ _ _ c.in_ok-unvaried.ensures refl refl (ap value c.upright.ensures)

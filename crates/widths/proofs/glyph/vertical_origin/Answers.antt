@@ -1,27 +1,26 @@
 -- `widths::glyph::vertical_origin` meets its contract. Assumes nothing.
 use native.Mathlib.Omega.{arith}
-use mathlib.Core.Path.{refl, ap}
+use mathlib.Core.Path.{refl, ap, ◌∙◌}
 use mir.Syntax.{w16}
 use mir.ValLaws.{to_z-of_z}
 use Rattle.readers.specs.Outcome.{value}
-use Rattle.readers.specs.Answers.{outcome_i16}
 use Rattle.readers.proofs.Outcome.{onward_by, halt_by}
+use Rattle.readers.proofs.Reading.{handed_on}
 use Rattle.widths.specs.Glyph.{read_vertical_origin}
-use Rattle.widths.specs.Answers.{ordinate_outcome}
 use Rattle.widths.proofs.glyph.vertical_origin.Goals as goal
 
-pub returns-in-Refused : goal.returns-in-Refused
+pub returns-in_err-unvaried : goal.returns-in_err-unvaried
 unfolding read_vertical_origin
-returns-in-Refused c = halt_by outcome_i16 _ _ c.bearing_for.ensures c.in-Refused.is refl
+returns-in_err-unvaried c = handed_on (λ x. x) _ _ c.from_residual.ensures ∙ halt_by (λ o. o) _ _ c.in_err-unvaried.ensures refl refl
 
-pub returns-in-Value-origin_for : goal.returns-in-Value-origin_for
+pub returns-in_err-origin : goal.returns-in_err-origin
 unfolding read_vertical_origin
-returns-in-Value-origin_for c =
-    onward_by outcome_i16 _ _ _ c.bearing_for.ensures c.in-Value.is refl
-    (onward_by ordinate_outcome _ _ _ c.origin_for.ensures c.in-Value-origin_for.is refl (ap value (rw (to_z-of_z w16 c.in-Value.x (record { sfits = omega arith })) at c.vertical_origin.ensures)))
+returns-in_err-origin c =
+    handed_on (λ x. x) _ _ c.from_residual-in_err-origin.ensures
+    ∙ onward_by (λ o. o) _ _ _ c.in_ok-unvaried.ensures refl refl (halt_by (λ o. o) _ _ c.in_err-origin.ensures refl refl)
 
-pub returns-in-Refused-origin_for : goal.returns-in-Refused-origin_for
+pub returns : goal.returns
 unfolding read_vertical_origin
-returns-in-Refused-origin_for c =
-    onward_by outcome_i16 _ _ _ c.bearing_for.ensures c.in-Value.is refl
-    (halt_by ordinate_outcome _ _ c.origin_for.ensures c.in-Refused-origin_for.is refl)
+returns c =
+    onward_by (λ o. o) _ _ _ c.in_ok-unvaried.ensures refl refl
+    (onward_by (λ o. o) _ _ _ c.in_ok-origin.ensures refl refl (ap value (rw (to_z-of_z w16 c.in_ok-unvaried.unvaried (record { sfits = omega arith })) at c.vertical_origin.ensures)))

@@ -2,7 +2,6 @@
 // refuse alike and stand behind one another: a line asks for them forty times.
 #![tactic(auto)]
 
-mod bytes;
 pub mod filling;
 pub mod item;
 pub mod metric;

@@ -1,16 +1,24 @@
 // The delta of a glyph's advance or bearing, by HVAR or VVAR, with the scalars of the table's store in a list.
-ghost use Rattle.std.specs.Prelude.{◌≡◌};
-ghost use Rattle.readers.specs.Reading.{run};
+ghost use Rattle.std.specs.Prelude.{◌≡◌, ◌+◌, ◌-◌, ◌<◌, ◌≤◌, length};
+ghost use Rattle.readers.specs.Reading.{big_endian, run};
 ghost use Rattle.readers.specs.Answers.{outcome_fixed};
 ghost use Rattle.opentype.specs.Metric.{advance, bearing, float_of};
 ghost use Rattle.opentype.specs.Lines.{metric_delta_with};
 ghost use Rattle.store.specs.MetricAnswers.{measure_of, place_of, place_outcome};
 
-use crate::bytes::ending_in;
 use crate::item::item_delta_with;
 use numbers::Fixed;
 use readers::{FromBeData, Refusal};
 use store::metric::{Measure, Place, float_of, map_field, store_of};
+
+// The number of 1 to 4 bytes, `more` behind the first, that end with the byte `last`: the low bytes of the word that ends there.
+fn ending_in(font: &[u8], last: usize, more: u16) -> u32
+    requires last_in_bounds { (3 ≤ last) × (last < length font.now) }
+    requires more_bound { more ≤ 3 }
+    ensures { result ≡ big_endian (more + 1) font.now (last - more) }
+{
+    u32::from_be_data(font, last - 3) & (u32::MAX >> (24 - 8 * (more as u32)))
+}
 
 // Where the HVAR or VVAR at base has the delta of a glyph's measure.
 fn place_in(font: &[u8], base: u32, measure: Measure, glyph_id: u16) -> Result<Place, Refusal>

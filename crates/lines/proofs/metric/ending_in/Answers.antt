@@ -1,10 +1,10 @@
--- `lines::bytes::ending_in` meets its contract. Assumes nothing.
+-- `lines::metric::ending_in` meets its contract. Assumes nothing.
 use Prim.Native.Nat.{◌+◌, ◌-◌}
 use mathlib.Core.Path.{◌≡◌, ap, ◌∙◌}
 use native.Mathlib.Omega.{arith}
 use Rattle.readers.specs.Reading.{big_endian}
 use Rattle.lines.proofs.Words.{low_bytes}
-use Rattle.lines.proofs.bytes.ending_in.Goals as goal
+use Rattle.lines.proofs.metric.ending_in.Goals as goal
 
 pub returns : goal.returns
 returns c =

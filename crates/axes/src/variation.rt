@@ -1,5 +1,5 @@
-// Coordinate lists: from settings, and for an instance (swash's variation.rs). The header and its table, the font and its avar stay parameters:
-// over a struct that held the references, the theorems of one answer (`proofs/VariationOne.antt`) would have no plain statement.
+// Coordinate lists: from settings, and for an instance (swash's variation.rs). A public function takes the header and its table, the font and its
+// avar one by one: over a `Lent`, which holds references, the theorems of one answer (`proofs/VariationOne.antt`) would have no plain statement.
 ghost use Rattle.std.specs.Prelude.{◌≡◌, ◌≤◌, ℕ, ℤ, length};
 ghost use Rattle.readers.specs.Outcome.{Outcome};
 ghost use Rattle.readers.specs.Answers.{outcome, outcome_f2_dot14};
@@ -54,42 +54,49 @@ fn many_coords<F: Fn(u16) -> Result<F2Dot14, Refusal>>(
     Ok(count)
 }
 
-// The coordinate of an axis: 0, or that of the last setting with the axis's tag.
-fn axis_coord(
-    axis: VarAxis,
-    font: &[u8],
+// What each coordinate is worked out from: the axes, and the avar at an offset in the font.
+#[derive(Clone, Copy)]
+struct Lent<'a> {
+    fvar: Fvar,
+    table: &'a [u8],
+    font: &'a [u8],
     avar: u32,
-    tags: &[u32],
-    values: &[f32],
-) -> Result<F2Dot14, Refusal>
-    requires { length tags.now ≤ length values.now }
-    ensures { outcome_f2_dot14 result ≡ axis_coord font.now avar (axis_of axis) tags.now values.now }
-{
-    let mut coord = F2Dot14::ZERO;
-    for (&tag, &value) in tags.iter().zip(values) {
-        if tag == axis.tag {
-            coord = axis.normalized_coord(value.into(), font, avar)?;
-        }
-    }
-    Ok(coord)
 }
 
-// The coordinate of axis i. An axis that cannot be read has no tag.
-fn setting_coord(
-    fvar: Fvar,
-    table: &[u8],
-    font: &[u8],
-    avar: u32,
-    tags: &[u32],
-    values: &[f32],
-    i: u16,
-) -> Result<F2Dot14, Refusal>
-    requires { length tags.now ≤ length values.now }
-    ensures { outcome_f2_dot14 result ≡ setting_coord table.now (header fvar) font.now avar tags.now values.now i }
-{
-    match fvar.get_axis(table, i) {
-        Ok(axis) => axis_coord(axis, font, avar, tags, values),
-        Err(_) => Ok(F2Dot14::ZERO),
+impl Lent<'_> {
+    // The coordinate of an axis: 0, or that of the last setting with the axis's tag.
+    fn axis_coord(self, axis: VarAxis, tags: &[u32], values: &[f32]) -> Result<F2Dot14, Refusal>
+        requires { length tags.now ≤ length values.now }
+        ensures { outcome_f2_dot14 result ≡ axis_coord self.entry.font.now self.entry.avar (axis_of axis) tags.now values.now }
+    {
+        let mut coord = F2Dot14::ZERO;
+        for (&tag, &value) in tags.iter().zip(values) {
+            if tag == axis.tag {
+                coord = axis.normalized_coord(value.into(), self.font, self.avar)?;
+            }
+        }
+        Ok(coord)
+    }
+
+    // The coordinate of axis i. An axis that cannot be read has no tag.
+    fn setting_coord(self, tags: &[u32], values: &[f32], i: u16) -> Result<F2Dot14, Refusal>
+        requires { length tags.now ≤ length values.now }
+        ensures { outcome_f2_dot14 result
+            ≡ setting_coord self.entry.table.now (header self.entry.fvar) self.entry.font.now self.entry.avar tags.now values.now i }
+    {
+        match self.fvar.get_axis(self.table, i) {
+            Ok(axis) => self.axis_coord(axis, tags, values),
+            Err(_) => Ok(F2Dot14::ZERO),
+        }
+    }
+
+    // The coordinate of axis i from its value in an instance's part; an axis that cannot be read is all zeros, with index 0.
+    fn value_coord(self, part: &[u8], i: u16) -> Result<F2Dot14, Refusal>
+        ensures { outcome_f2_dot14 result
+            ≡ value_coord self.entry.table.now (header self.entry.fvar) self.entry.font.now self.entry.avar part.now i }
+    {
+        let axis = self.fvar.get_axis(self.table, i).unwrap_or(VarAxis::NONE);
+        axis.normalized_coord(value_or_zero(part, i), self.font, self.avar)
     }
 }
 
@@ -114,26 +121,13 @@ pub fn normalized_coords(
     if out.len() < usize::from(count) {
         return Err(Refusal::Room);
     }
-    few_coords(
-        |i| setting_coord(fvar, table, font, avar, tags, values, i),
-        count,
-        out,
-    )
-}
-
-// The coordinate of axis i from its value in an instance's part; an axis that cannot be read is all zeros, with index 0.
-fn value_coord(
-    fvar: Fvar,
-    table: &[u8],
-    font: &[u8],
-    avar: u32,
-    part: &[u8],
-    i: u16,
-) -> Result<F2Dot14, Refusal>
-    ensures { outcome_f2_dot14 result ≡ value_coord table.now (header fvar) font.now avar part.now i }
-{
-    let axis = fvar.get_axis(table, i).unwrap_or(VarAxis::NONE);
-    axis.normalized_coord(value_or_zero(part, i), font, avar)
+    let lent = Lent {
+        fvar,
+        table,
+        font,
+        avar,
+    };
+    few_coords(|i| lent.setting_coord(tags, values, i), count, out)
 }
 
 // The coordinates of a named instance, one for each axis, in the first elements of out; answers how many.
@@ -153,7 +147,13 @@ pub fn instance_coords(
     if out.len() < usize::from(count) {
         return Err(Refusal::Room);
     }
-    let coord = |i| value_coord(fvar, table, font, avar, part, i);
+    let lent = Lent {
+        fvar,
+        table,
+        font,
+        avar,
+    };
+    let coord = |i| lent.value_coord(part, i);
     if count <= 32 {
         few_coords(coord, count, out)
     } else {

@@ -1,4 +1,4 @@
--- `axes::variation::axis_coord` meets its contract. The loop's invariant: the settings that are left, onto the coordinate so far, give the answer.
+-- `axes::variation::Lent::axis_coord` meets its contract. The loop's invariant: the settings that are left, onto the coordinate so far, give the answer.
 -- Assumes nothing.
 use mathlib.Core.Path.{refl, sym, ◌∙◌}
 use native.Mathlib.Omega.{arith}
@@ -10,7 +10,7 @@ use Rattle.readers.proofs.Walk.{turned, ended}
 use Rattle.opentype.specs.Variation.{setting_turn, axis_coord}
 use Rattle.axes.proofs.Coords.{onward_coord, halt_coord}
 use Rattle.axes.proofs.Exits.{exited}
-use Rattle.axes.proofs.variation.axis_coord.Goals as goal
+use Rattle.axes.proofs.variation.Lent.axis_coord.Goals as goal
 
 pub loop-tag-init : goal.loop-tag-init
 unfolding axis_coord

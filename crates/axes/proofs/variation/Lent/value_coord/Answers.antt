@@ -1,11 +1,11 @@
--- `axes::variation::value_coord` meets its contract. Assumes nothing.
+-- `axes::variation::Lent::value_coord` meets its contract. Assumes nothing.
 use mathlib.Core.Path.{ap, ◌∙◌}
 use Rattle.readers.specs.Outcome.{value_or}
 use Rattle.opentype.specs.Axis.{no_axis}
 use Rattle.opentype.specs.Variation.{value_coord}
 use Rattle.axes.specs.AxisAnswers.{axis_of}
 use Rattle.axes.proofs.Exits.{or_value}
-use Rattle.axes.proofs.variation.value_coord.Goals as goal
+use Rattle.axes.proofs.variation.Lent.value_coord.Goals as goal
 
 pub returns : goal.returns
 unfolding value_coord no_axis

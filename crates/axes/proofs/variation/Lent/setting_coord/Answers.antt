@@ -1,6 +1,6 @@
--- `axes::variation::setting_coord` meets its contract. Assumes nothing.
+-- `axes::variation::Lent::setting_coord` meets its contract. Assumes nothing.
 use Rattle.opentype.specs.Variation.{setting_coord}
-use Rattle.axes.proofs.variation.setting_coord.Goals as goal
+use Rattle.axes.proofs.variation.Lent.setting_coord.Goals as goal
 
 pub returns-in-Ok : goal.returns-in-Ok
 unfolding setting_coord

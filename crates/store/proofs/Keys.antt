@@ -1,5 +1,5 @@
 -- A key that is read, by its number; a search for a place, and what is sought there. Assumes nothing.
-use Prim.Native.Nat.{ℕ, zero, suc, ◌+◌, ◌/◌}
+use Prim.Native.Nat.{ℕ, zero, suc, ◌+◌, ◌/◌, ◌<◌}
 use mathlib.Core.Path.{◌≡◌, refl, ap, sym, ◌∙◌}
 use mathlib.Core.Bool.{Bool, true, false, cond}
 use mathlib.Core.List.{List}
@@ -7,12 +7,13 @@ use lib.Dec.{leb, ltb}
 use lib.ListN.{length}
 use Rattle.std.proofs.Common.{Option, Some, None}
 use Rattle.readers.specs.Outcome.{Outcome, value, onward, unless}
-use Rattle.readers.specs.Reading.{Reading, answer, bytes_at, big_endian, read_at, unsigned_at, run}
+use Rattle.readers.specs.Reading.{Reading, answer, refuse, bytes_at, big_endian, read_at, unsigned_at, run}
 use Rattle.readers.specs.Answers.{refusal}
 use Rattle.readers.specs.declared.Refusal.{Refusal}
 use Rattle.readers.proofs.Outcome.{unless_onward}
 use Rattle.readers.proofs.Reading.{seen_by, cut_alike}
 use Rattle.opentype.specs.Search.{Records, Sought, search_in, searched}
+use Rattle.opentype.proofs.Search.{found_record}
 use Rattle.store.specs.KeyedAnswers.{place}
 
 -- A number of what bytes stand for that is the bytes' own.
@@ -64,3 +65,10 @@ module _ {A : Type 0} (font : List ℕ) (records : Records) (sought : Sought A) 
   pub searched_there : (count : ℕ) → onward (run font (searched records place key count)) there ≡ run font (searched records sought key count)
   unfolding searched
   searched_there count = search_there count 0 count
+
+-- What is found is the start of a record.
+pub found_place : (font : List ℕ) (records : Records) (key count p : ℕ) → value (Some p) ≡ run font (searched records place key count) → (i : ℕ) × (i < count) × (p ≡ records.start i)
+unfolding searched run
+found_place font records key count p e =
+    let start : Sought ℕ = record { found = answer; missing = refuse 4 } in
+    found_record font records 4 key count 0 count p (sym (searched_there font records start key count) ∙ ap (λ o. onward o (λ q. run font (sought_at start q))) (sym e))

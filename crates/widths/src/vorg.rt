@@ -1,11 +1,11 @@
 // VORG: the y coordinate of a glyph's vertical origin.
-ghost use Rattle.std.specs.Prelude.{◌≡◌, ◌^◌, ◌<◌};
+ghost use Rattle.std.specs.Prelude.{◌≡◌};
 ghost use Rattle.readers.specs.Reading.{run};
-ghost use Rattle.opentype.specs.Search.{searched};
 ghost use Rattle.readers.specs.Answers.{outcome};
-ghost use Rattle.opentype.specs.Vorg.{vert_origin_y_metrics, vert_origin_y, origin_at};
+ghost use Rattle.opentype.specs.Vorg.{origin_at};
 
 use readers::{Refusal, read};
+use store::keyed::Records;
 
 // The origin of a glyph by the VORG at an offset; of a glyph that it has not, the default.
 pub fn origin(font: &[u8], vorg: u32, glyph_id: u16) -> Result<i16, Refusal>
@@ -14,30 +14,15 @@ pub fn origin(font: &[u8], vorg: u32, glyph_id: u16) -> Result<i16, Refusal>
     if vorg == 0 {
         return Err(Refusal::Absent);
     }
-    let base = vorg as usize;
-    let default = read::<i16>(font, base + 4)?;
-    let count = read::<u16>(font, base + 6)?;
-    find(font, base, count, glyph_id, default)
-}
-
-// MVAR's walk: the middle of what is left, whether or not the records are sorted.
-fn find(font: &[u8], base: usize, count: u16, glyph_id: u16, default: i16) -> Result<i16, Refusal>
-    requires { base < 2 ^ 32 }
-    ensures { outcome result ≡ run font.now (searched (vert_origin_y_metrics base) (vert_origin_y default) glyph_id count) }
-{
-    let mut l: usize = 0;
-    let mut h = count as usize;
-    while l < h {
-        let i = (l + h) / 2;
-        let at = base + 8 + 4 * i;
-        let g = read::<u16>(font, at)?;
-        if glyph_id < g {
-            h = i;
-        } else if g < glyph_id {
-            l = i + 1;
-        } else {
-            return read(font, at + 2);
-        }
+    let default = read::<i16>(font, vorg as usize + 4)?;
+    let records = Records {
+        table: vorg,
+        head: 8,
+        size: 4,
+        count: read(font, vorg as usize + 6)?,
+    };
+    match records.find(font, glyph_id)? {
+        Some(at) => read(font, at + 2),
+        None => Ok(default),
     }
-    Ok(default)
 }

@@ -1,7 +1,10 @@
 -- No second answer: for each export two numbers that its contract allows are the same, and so is all that it writes. Assumes nothing.
 use mathlib.Core.Path.{sym, ◌∙◌}
+use denote.RattleType.{RattleType}
+use denote.Param.Laws.{Laws}
+use mir.Syntax.{Dict}
 use Rattle.numbers.specs.One.{One, OneSeen, ◌and◌}
-use Rattle.suolluvik.proofs.counts.count_value.Reads as count-value
+use Rattle.suolluvik.proofs.answers.answered.Reads as answered
 use Rattle.suolluvik.proofs.deltas.float_value.Reads as float_value
 use Rattle.suolluvik.proofs.deltas.suolluvik_advance_delta_fixed.Reads as advance-delta-fixed
 use Rattle.suolluvik.proofs.deltas.suolluvik_advance_delta.Reads as advance-delta
@@ -43,9 +46,9 @@ use Rattle.suolluvik.proofs.scalars.suolluvik_mvar_delta_fixed_with.Reads as mva
 use Rattle.suolluvik.proofs.scalars.suolluvik_mvar_delta_with.Reads as mvar-delta-with
 use Rattle.suolluvik.proofs.version.suolluvik_version.Reads as version
 
--- What writes a count, and a delta's float, is the line's too.
-pub count_value_one : OneSeen count-value.Post (λ r s. r and s.1.0.now)
-count_value_one κs a r r' s s' p q = p ∙ sym q
+-- What writes an answer, whatever its value; and what writes a delta's float: the line's too.
+pub answered_one : (T : RattleType) (laws : Laws T) (copies : _) (clone : _) (code : Dict) → OneSeen (answered.Post T laws copies clone code) (λ r s. r and s.1.1.0.now)
+answered_one T laws copies clone code κs a r r' s s' p q = p ∙ sym q
 
 pub float_value_one : OneSeen float_value.Post (λ r s. r and s.1.0.now)
 float_value_one κs a r r' s s' p q = p ∙ sym q

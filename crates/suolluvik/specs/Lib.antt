@@ -2,5 +2,6 @@
 pub mod Numbered
 pub mod Fvar
 pub mod Measures
+pub mod MeasuresAnswers
 pub mod Glyph
 pub mod GlyphAnswers

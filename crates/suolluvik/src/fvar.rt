@@ -3,7 +3,7 @@ ghost use Rattle.std.specs.Prelude.{◌≡◌, length};
 ghost use Rattle.numbers.specs.Floats.{to_float};
 ghost use Rattle.readers.specs.Outcome.{number, value_or};
 ghost use Rattle.opentype.specs.Axis.{no_axis};
-ghost use Rattle.axes.specs.FvarAnswers.{axis_outcome, name_of};
+ghost use Rattle.axes.specs.AxisAnswers.{axis_of};
 ghost use Rattle.opentype.specs.Fvar.{header_of};
 ghost use Rattle.opentype.specs.Values.{float_count, floats_in};
 ghost use Rattle.suolluvik.specs.Numbered.{numbered};
@@ -80,7 +80,11 @@ pub extern "C" fn suolluvik_axis(
     ensures name { name_id.new ≡ (value_or no_axis (axis_in fvar.now index)).axis_name_id }
 {
     let mut axis = VarAxis::NONE;
-    let number = answered(Fvar::new(fvar).get_axis(fvar, index), VarAxis::NONE, &mut axis);
+    let number = answered(
+        Fvar::new(fvar).get_axis(fvar, index),
+        VarAxis::NONE,
+        &mut axis,
+    );
     *tag = axis.tag;
     put_axis(axis, min, default_value, max, flags, name_id);
     number
@@ -107,7 +111,11 @@ pub extern "C" fn suolluvik_axis_by_tag(
     ensures name { name_id.new ≡ (value_or no_axis (tagged_in fvar.now tag)).axis_name_id }
 {
     let mut axis = VarAxis::NONE;
-    let number = answered(Fvar::new(fvar).get_axis_by_tag(fvar, tag), VarAxis::NONE, &mut axis);
+    let number = answered(
+        Fvar::new(fvar).get_axis_by_tag(fvar, tag),
+        VarAxis::NONE,
+        &mut axis,
+    );
     *index = axis.index;
     put_axis(axis, min, default_value, max, flags, name_id);
     number
@@ -128,7 +136,11 @@ pub extern "C" fn suolluvik_instance(
     ensures postscript { postscript_name_id.new ≡ name_or_zero (value_or no_instance (instance_in fvar.now index)).post_script_name_id }
 {
     let mut instance = VarInstance::NONE;
-    let number = answered(Fvar::new(fvar).get_instance(fvar, index), VarInstance::NONE, &mut instance);
+    let number = answered(
+        Fvar::new(fvar).get_instance(fvar, index),
+        VarInstance::NONE,
+        &mut instance,
+    );
     *name_id = instance.name_id;
     *has_postscript_name = u8::from(instance.postscript_name_id.is_some());
     *postscript_name_id = instance.postscript_name_id.unwrap_or(0);

@@ -3,7 +3,7 @@
 ghost use Rattle.std.specs.Prelude.{◌≡◌};
 ghost use Rattle.metrics.specs.Scale.{zero, scale_for};
 ghost use Rattle.metrics.specs.Vertical.{synthesized_from};
-ghost use Rattle.metrics.specs.Structs.{vertical_of, glyphs_of};
+ghost use Rattle.metrics.specs.Structs.{vertical_of, glyphs_of, ordinate};
 ghost use Rattle.suolluvik.specs.Glyph.{vertical_case, glyphs, no_vertical, advance_or, origin_or, if_known, advance_width_in, left_bearing_in, advance_height_in, top_bearing_in, vertical_origin_in, materialized_advance, materialized_origin};
 ghost use Rattle.suolluvik.specs.Numbered.{numbered};
 ghost use Rattle.suolluvik.specs.GlyphAnswers.{vertical_outcome};
@@ -114,8 +114,9 @@ pub extern "C" fn suolluvik_advance_height(
 ) -> u8
     ensures { (result, value.new) ≡ numbered zero (advance_height_in font.now vertical vvar synthesized glyph_id coords.now unvaried scale) }
 {
-    let height = vertical_case(vertical, vvar, synthesized, 0.0)
-        .map(|v| glyphs(0, 0, v, scale).advance_height(font, glyph_id, coords, unvaried));
+    let height = vertical_case(vertical, vvar, synthesized, 0.0).map(|v| glyphs(
+        0, 0, v, scale,
+    ).advance_height(font, glyph_id, coords, unvaried));
     answered(height, 0.0, value)
 }
 
@@ -133,9 +134,16 @@ pub extern "C" fn suolluvik_tsb(
 ) -> u8
     ensures { (result, value.new) ≡ numbered zero (top_bearing_in font.now vertical vvar glyph_id coords.now unvaried scale) }
 {
-    let bearing = vertical_case(vertical, vvar, 0.0, 0.0)
-        .map(|v| glyphs(0, 0, v, scale).tsb(font, glyph_id, coords, unvaried));
+    let bearing = vertical_case(vertical, vvar, 0.0, 0.0).map(|v| glyphs(0, 0, v, scale).tsb(
+        font, glyph_id, coords, unvaried,
+    ));
     answered(bearing, 0.0, value)
+}
+
+fn known(has_y: bool, y: i16) -> Option<i16>
+    ensures { ordinate result ≡ if_known has_y y }
+{
+    has_y.then_some(y)
 }
 
 // Its vertical origin, from its unvaried top side bearing and a y that may be missing: with glyf its yMax, with VORG its origin there; or the synthesized one, scaled.
@@ -156,7 +164,7 @@ pub extern "C" fn suolluvik_vertical_origin(
 ) -> u8
     ensures { (result, value.new) ≡ numbered zero (vertical_origin_in font.now units_per_em vertical vvar synthesized glyph_id coords.now unvaried (if_known has_y y) scale) }
 {
-    let y = has_y.then_some(y);
+    let y = known(has_y, y);
     let origin = vertical_case(vertical, vvar, 0.0, synthesized).map(|v| {
         glyphs(units_per_em, 0, v, scale).vertical_origin(font, glyph_id, coords, unvaried, y, y)
     });
@@ -196,8 +204,11 @@ pub extern "C" fn suolluvik_materialize_glyph_metrics<'a>(
     ensures advance { (result, advance_at.new) ≡ numbered zero (materialized_advance font.now vertical mvar coords.now advance origin) }
     ensures origin { (result, origin_at.new) ≡ numbered zero (materialized_origin font.now vertical mvar coords.now advance origin) }
 {
-    let shifted = vertical_case(vertical, mvar, advance, origin)
-        .map(|v| materialize_glyph_metrics(glyphs(0, 0, v, 0.0), font, coords).vertical);
+    let shifted = vertical_case(vertical, mvar, advance, origin).map(|v| materialize_glyph_metrics(
+        glyphs(0, 0, v, 0.0),
+        font,
+        coords,
+    ).vertical);
     answered(shifted.map(|v| advance_or(advance, v)), 0.0, advance_at);
     answered(shifted.map(|v| origin_or(origin, v)), 0.0, origin_at)
 }

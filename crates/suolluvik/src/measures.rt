@@ -2,9 +2,10 @@
 // and strikeout offset, stroke size. They are changed in place; a record of another size is refused.
 ghost use Rattle.std.specs.Prelude.{◌≡◌, false, ◌≤◌, length};
 ghost use Rattle.readers.specs.Outcome.{number};
-ghost use Rattle.metrics.specs.Measures.{materialized_metrics, linear_scaled, scaled_metrics};
+ghost use Rattle.metrics.specs.Measures.{Metrics as Measured, materialized_metrics, linear_scaled, scaled_metrics};
 ghost use Rattle.metrics.specs.Structs.{metrics_of};
 ghost use Rattle.suolluvik.specs.Measures.{record_in, size_in, put, changed};
+ghost use Rattle.suolluvik.specs.MeasuresAnswers.{Makes};
 
 use metrics::measures::{Metrics, materialize_metrics};
 use readers::Refusal;
@@ -55,6 +56,27 @@ fn put(m: Metrics, measures: &mut [f32])
     measures[12] = m.stroke_size;
 }
 
+// A record with its measures changed; the number is the refusal's of one of another size.
+fn changed<F: FnOnce(Metrics) -> Metrics>(
+    change: F,
+    units_per_em: u16,
+    has_vertical_metrics: bool,
+    measures: &mut [f32],
+) -> u8
+    requires { F.IsAlwaysCallable change }
+    ensures number { result ≡ number (size_in measures.old) }
+    ensures list { (rule : Measured → Measured) → Makes (F.post change) rule → measures.new ≡ changed rule units_per_em has_vertical_metrics measures.old }
+{
+    if measures.len() != COUNT {
+        return Refusal::Room.into();
+    }
+    put(
+        change(record_in(units_per_em, has_vertical_metrics, measures)),
+        measures,
+    );
+    0
+}
+
 // The measures at some coordinates, from the unvaried ones. mvar is an offset in the font, 0 for none.
 #[unsafe(no_mangle)]
 pub extern "C" fn suolluvik_materialize_metrics<'a>(
@@ -67,12 +89,12 @@ pub extern "C" fn suolluvik_materialize_metrics<'a>(
     ensures number { result ≡ number (size_in measures.old) }
     ensures list { measures.new ≡ changed (materialized_metrics font.now mvar coords.now) 0 has_vertical_metrics measures.old }
 {
-    if measures.len() != COUNT {
-        return Refusal::Room.into();
-    }
-    let unvaried = record_in(0, has_vertical_metrics, measures);
-    put(materialize_metrics(unvaried, font, mvar, coords), measures);
-    0
+    changed(
+        |unvaried| materialize_metrics(unvaried, font, mvar, coords),
+        0,
+        has_vertical_metrics,
+        measures,
+    )
 }
 
 // The measures scaled for pixels per em.
@@ -81,12 +103,7 @@ pub extern "C" fn suolluvik_scale_metrics(units_per_em: u16, ppem: f32, measures
     ensures number { result ≡ number (size_in measures.old) }
     ensures list { measures.new ≡ changed (scaled_metrics ppem) units_per_em false measures.old }
 {
-    if measures.len() != COUNT {
-        return Refusal::Room.into();
-    }
-    let m = record_in(units_per_em, false, measures);
-    put(m.scale(ppem), measures);
-    0
+    changed(|m| m.scale(ppem), units_per_em, false, measures)
 }
 
 // The measures scaled by a factor.
@@ -95,10 +112,5 @@ pub extern "C" fn suolluvik_linear_scale_metrics(scale: f32, measures: &mut [f32
     ensures number { result ≡ number (size_in measures.old) }
     ensures list { measures.new ≡ changed (linear_scaled scale) 0 false measures.old }
 {
-    if measures.len() != COUNT {
-        return Refusal::Room.into();
-    }
-    let m = record_in(0, false, measures);
-    put(m.linear_scale(scale), measures);
-    0
+    changed(|m| m.linear_scale(scale), 0, false, measures)
 }

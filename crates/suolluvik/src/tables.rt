@@ -25,11 +25,7 @@ pub extern "C" fn suolluvik_xmtx_advance(
 ) -> u8
     ensures { (result, value.new) ≡ numbered 0 (run font.now (advance_at xmtx long_metric_count glyph_id)) }
 {
-    answered(
-        advance(font, xmtx, long_metric_count, glyph_id),
-        0,
-        value,
-    )
+    answered(advance(font, xmtx, long_metric_count, glyph_id), 0, value)
 }
 
 // Its unvaried left or top side bearing.

@@ -1,21 +1,23 @@
 -- `suolluvik::glyph::vertical_case` meets its contract. Assumes nothing.
+use native.Mathlib.Omega.{arith}
 use borrow.Author.Tests.{eq-eqb, ne_eqb}
-use mathlib.Core.Path.{refl}
 use Rattle.suolluvik.specs.Glyph.{vertical_case}
 use Rattle.suolluvik.proofs.glyph.vertical_case.Goals as goal
 
-pub returns-then-which-eq0 : goal.returns-then-which-eq0
+pub returns-in-0 : goal.returns-in-0
 unfolding vertical_case
-returns-then-which-eq0 c = rw (eq-eqb _ _ c.if-which-eq0.true) refl
+returns-in-0 c = rw c.in-0.is
 
-pub returns-then-which-eq1 : goal.returns-then-which-eq1
+pub returns-in-1 : goal.returns-in-1
 unfolding vertical_case
-returns-then-which-eq1 c = rw (ne_eqb _ _ c.if-which-eq0.false, eq-eqb _ _ c.if-which-eq1.true) refl
+returns-in-1 c = rw c.in-1.is
 
-pub returns-then-which-eq2 : goal.returns-then-which-eq2
+pub returns-in-2 : goal.returns-in-2
 unfolding vertical_case
-returns-then-which-eq2 c = rw (ne_eqb _ _ c.if-which-eq0.false, ne_eqb _ _ c.if-which-eq1.false, eq-eqb _ _ c.if-which-eq2.true) refl
+returns-in-2 c = rw c.in-2.is
 
-pub returns : goal.returns
+pub returns-in_default : goal.returns-in_default
 unfolding vertical_case
-returns c = rw (ne_eqb _ _ c.if-which-eq0.false, ne_eqb _ _ c.if-which-eq1.false, ne_eqb _ _ c.if-which-eq2.false) refl
+returns-in_default c =
+    let which = c.args.which in
+    rw (ne_eqb which 0 (λ e. omega arith), ne_eqb which 1 (λ e. omega arith), ne_eqb which 2 (λ e. omega arith))

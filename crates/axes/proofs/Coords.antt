@@ -11,15 +11,13 @@ use Rattle.std.proofs.lemmas.List.{append_assoc, length-take-le, length-replicat
 use Rattle.std.proofs.Math.Seq.{take-suc, drop-cons, set-append_seam}
 use Rattle.numbers.specs.declared.F2Dot14.{F2Dot14}
 use Rattle.readers.specs.Outcome.{Outcome, value, refused, onward, value_or}
-use Rattle.readers.specs.Reading.{Done, done}
-use Rattle.readers.specs.Walk.{walk}
 use Rattle.readers.specs.Lent.{fill}
 use Rattle.readers.specs.Answers.{refusal, outcome_f2_dot14}
 use Rattle.readers.specs.declared.Refusal.{Refusal}
 use Rattle.readers.proofs.Outcome.{onward_by, halt_by, unless_true, unless_false}
 use Rattle.readers.proofs.Lent.{fill_at, fill_length}
 use Rattle.opentype.specs.Fvar.{Header, instance_values}
-use Rattle.opentype.specs.Variation.{coord_turn, passed, counted, value_coord, instance_count}
+use Rattle.opentype.specs.Variation.{passed, counted, value_coord, instance_count}
 
 module _ {C : Type 0} (d : Outcome ℤ) (f : ℤ → Outcome C) where
   pub onward_coord : (w : Outcome C) {r : Result F2Dot14 Refusal} {x : F2Dot14} → outcome_f2_dot14 r ≡ d → r ≡ Ok x → w ≡ f x.0 → w ≡ onward d f
@@ -31,11 +29,6 @@ module _ {C : Type 0} (d : Outcome ℤ) (f : ℤ → Outcome C) where
 -- The value of such a coordinate.
 pub coord_is : {d : Outcome ℤ} {r : Result F2Dot14 Refusal} {x : F2Dot14} → outcome_f2_dot14 r ≡ d → r ≡ Ok x → x.0 ≡ value_or (pos 0) d
 coord_is p q = rw (← p, q)
-
--- The loop over n coordinates from its start on.
-pub passed_as : (coord : ℕ → Outcome ℤ) (n m : ℕ) → n ≡ m → walk (coord_turn coord) (λ (d : Done). value n) n 0 done ≡ passed coord m
-unfolding passed
-passed_as coord n m e = ap (λ (k : ℕ). walk (coord_turn coord) (λ (d : Done). value k) k 0 done) e
 
 -- A lent list that is too short, and one that is not.
 module _ (coord : ℕ → Outcome ℤ) (n room : ℕ) where

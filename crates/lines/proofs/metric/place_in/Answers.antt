@@ -21,10 +21,6 @@ module _ (font : List ℕ) (base offset told : ℕ) (measure : Measure) (is : to
       → Mapped font base measure
   mapped format count some head formed counted = record { field = field; some = some; head = head; format = format; count = count; formed = formed; counted = counted }
 
--- How far the entry is from the first, so that no position wraps.
-near : (c : goal.After-min-index) → (c.from_be_data-format.result / 16 % 4 + 1) * c.min-index.result < 2 ^ 18
-near c = entry_near _ _ (omega arith) (omega arith)
-
 pub returns-in_err-store : goal.returns-in_err-store
 unfolding place_of
 returns-in_err-store c = stopped_call _ _ _ _ _ _ c.from_residual.ensures c.in_err-store.ensures
@@ -61,15 +57,6 @@ returns-then-count-eq0 c =
     (mapped _ _ _ _ _ c.map_field.ensures.0 c.if-font-field.false c.from_be_data-offset.ensures _ _ c.if-offset-eq0.false c.if-font-map.false c.from_be_data-format.ensures c.from_be_data-count.ensures)
     c.if-count-eq0.true)
 
-pub overflow_mul-last : goal.overflow_mul-last
-overflow_mul-last c = omega (arith, near c)
-
-pub overflow_add-last-3 : goal.overflow_add-last-3
-overflow_add-last-3 c = omega (arith, near c)
-
-pub overflow_add-last-4 : goal.overflow_add-last-4
-overflow_add-last-4 c = omega (arith, near c)
-
 pub returns-then-font-last : goal.returns-then-font-last
 unfolding place_of
 returns-then-font-last c =
@@ -78,12 +65,6 @@ returns-then-font-last c =
     (entry_cut _ _ _ _ _
     (mapped _ _ _ _ _ c.map_field.ensures.0 c.if-font-field.false c.from_be_data-offset.ensures _ _ c.if-offset-eq0.false c.if-font-map.false c.from_be_data-format.ensures c.from_be_data-count.ensures)
     c.if-count-eq0.false (omega (arith, cut)))
-
-pub overflow_sub-result : goal.overflow_sub-result
-overflow_sub-result c = shifted_positive 0 _ (omega arith)
-
-pub overflow_cast-result : goal.overflow_cast-result
-overflow_cast-result c = record { fits = low_bits_small c.ending_in-entry.result (c.from_be_data-format.result % 16 + 1) (omega arith) }
 
 pub returns : goal.returns
 unfolding place_of

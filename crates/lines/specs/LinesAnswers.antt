@@ -2,6 +2,7 @@
 use Rattle.std.specs.Prelude.{ℕ, ◌+◌, ◌*◌, not, cond, eqb, ltb, List, ℤ, length}
 use Rattle.readers.specs.Reading.{Reading, answer, ◌>>=◌, ◌>>◌, check, unsigned_at}
 use Rattle.opentype.specs.Item.{Regions, region_list, Row, region_index_at}
+use Rattle.opentype.specs.Metric.{DeltaSetIndex}
 use Rattle.opentype.specs.Lines.{scalar_from}
 use Rattle.lines.specs.declared.filling.RegionList.{RegionList}
 
@@ -24,6 +25,10 @@ named_scalar scalars p = do
 -- Where entry k of a row that starts at p ends: a word, or a byte.
 abbrev pub entry_end : ℕ → ℕ → ℕ → ℕ
 entry_end word_count p k = p + cond (ltb k word_count) (2 * k + 2) (word_count + k + 1)
+
+-- A delta-set index by its two numbers, the outer first.
+abbrev pub index_of : ℕ × ℕ → DeltaSetIndex
+index_of i = record { outer = i.0; inner = i.1 }
 
 -- Steps of the code, no rules: how many regions a store has, where it has the subtable `outer`. All of `item_at` that is before the row.
 unfoldable pub counted_regions : ℕ → ℕ → Reading ℕ

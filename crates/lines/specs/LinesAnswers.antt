@@ -30,7 +30,12 @@ entry_end word_count p k = p + cond (ltb k word_count) (2 * k + 2) (word_count +
 abbrev pub index_of : ℕ × ℕ → DeltaSetIndex
 index_of i = record { outer = i.0; inner = i.1 }
 
--- Steps of the code, no rules: how many regions a store has, where it has the subtable `outer`. All of `item_at` that is before the row.
+-- Steps of the code, no rules: the regions of a store; how many they are, where the store has the subtable `outer`, which is all of `item_at` before the row.
+unfoldable pub regions_in : ℕ → Reading Regions
+regions_in store = do
+  check (not (eqb store 0)) 1
+  region_list store
+
 unfoldable pub counted_regions : ℕ → ℕ → Reading ℕ
 counted_regions store outer = do
   check (not (eqb store 0)) 1

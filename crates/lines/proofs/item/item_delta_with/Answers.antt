@@ -1,13 +1,12 @@
 -- `lines::item::item_delta_with` meets its contract. Assumes nothing.
-use Prim.Native.Nat.{ℕ, ◌≤◌}
+use Prim.Native.Nat.{ℕ}
 use mathlib.Core.Path.{◌≡◌, refl, ◌∙◌}
 use mathlib.Core.List.{List}
 use lib.IntN.{ℤ}
 use lib.Dec.{leb}
-use lib.ListN.{length, take}
+use lib.ListN.{length}
 use lib.Seq.{length-take-le}
 use borrow.Author.Tests.{le-leb, lt-leb}
-use Rattle.readers.specs.Outcome.{Outcome}
 use Rattle.readers.specs.Reading.{Reading, ◌>>=◌, ◌>>◌, check, unsigned_at, run}
 use Rattle.readers.proofs.Reading.{went_on_call, stopped_call, passed, failed}
 use Rattle.opentype.specs.Item.{Row, region_list, row_at, item_at, row_sum}

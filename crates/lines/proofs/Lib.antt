@@ -2,8 +2,6 @@
 pub mod Words
 pub mod Rows
 pub mod FillLaws
-pub mod Heads
-pub mod PlaceLaws
 pub mod Filled
 pub mod ListHangsOn
 pub mod LinesOne

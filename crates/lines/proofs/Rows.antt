@@ -27,7 +27,12 @@ use Rattle.readers.proofs.Reading.{run_nested, went_on_call, stopped_call, passe
 use Rattle.opentype.specs.Item.{Row, Item, region_index_at, delta_at, row_turn, row_sum}
 use Rattle.opentype.specs.Footprint.{Part}
 use Rattle.opentype.specs.Lines.{known, scalar_from}
-use Rattle.lines.specs.LinesAnswers.{named_scalar, entry_end}
+use Rattle.lines.specs.declared.item.Row as Code
+use Rattle.lines.specs.LinesAnswers.{row_from, named_scalar, entry_end}
+
+-- The row that the code's has.
+abbrev pub row_of : Code.Row → Row
+row_of r = row_from r.indexes r.count r.word_count r.start
 
 -- ---- an entry
 
@@ -132,11 +137,10 @@ index_below font count p region e =
 pub itself : (font : List ℕ) (coords : List ℤ) (parts : List Part) → Alike font font coords coords parts
 itself font coords parts = record { over = λ j e. refl; on = λ axis e. refl }
 
-pub cut_sum : (font : List ℕ) (scalars : List ℤ) (item : Item)
-    → run font (row_sum (scalar_from (take item.regions.region_count scalars)) item.regions.region_count item.row) ≡ run font (row_sum (scalar_from scalars) item.regions.region_count item.row)
+pub cut_list : (font : List ℕ) (scalars : List ℤ) (n : ℕ) (row : Row) → run font (row_sum (scalar_from (take n scalars)) n row) ≡ run font (row_sum (scalar_from scalars) n row)
 unfolding Same
-cut_sum font scalars item =
-    let n = item.regions.region_count in
+cut_list font scalars n row =
+    let item : Item = record { regions = record { start = 0; axis_count = 0; region_count = n }; row = row } in
     let same = row_same font font [] [] refl item (scalar_from (take n scalars)) (scalar_from scalars)
     (λ region k rest names _. ap (λ (z : ℤ). run font (known z)) (get_or-take n scalars region (pos 0) (index_below font _ _ region names))) (itself font [] _) in
     same.0

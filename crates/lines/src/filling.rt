@@ -1,9 +1,10 @@
 // The scalars of a store's regions, into a lent list.
 ghost use Rattle.std.specs.Prelude.{◌≡◌, ◌≤◌, length};
 ghost use Rattle.readers.specs.Lent.{fill};
-ghost use Rattle.readers.specs.Answers.{outcome};
+ghost use Rattle.readers.specs.Reading.{run};
+ghost use Rattle.readers.specs.Answers.{outcome, outcome_as};
 ghost use Rattle.opentype.specs.Lines.{kept_scalar, fill_count, filled};
-ghost use Rattle.lines.specs.LinesAnswers.{regions_of};
+ghost use Rattle.lines.specs.LinesAnswers.{regions_of, regions_in};
 
 use numbers::Fixed;
 use readers::{FromBeData, Refusal};
@@ -19,6 +20,30 @@ struct RegionList {
 }
 
 impl RegionList {
+    // The region list of a store, whose two counts are tested once.
+    fn of(font: &[u8], store: u32) -> Result<RegionList, Refusal>
+        ensures { outcome_as regions_of result ≡ run font.now (regions_in store) }
+    {
+        if store == 0 {
+            return Err(Refusal::Absent);
+        }
+        let base = store as usize;
+        if font.len() < base + 6 {
+            return Err(Refusal::Short);
+        }
+        let offset = u32::from_be_data(font, base + 2);
+        let list = base + offset as usize;
+        if font.len() < list + 4 {
+            return Err(Refusal::Short);
+        }
+        Ok(RegionList {
+            store,
+            offset,
+            axis_count: u16::from_be_data(font, list),
+            region_count: u16::from_be_data(font, list + 2),
+        })
+    }
+
     // What is kept for a region: −1 where its record runs out before its scalar is known. The list is lent by C, as numbers, so no `Option` can stand in it.
     fn kept_scalar(self, font: &[u8], region: u16, coords: &[i16]) -> Fixed
         ensures { result.0 ≡ kept_scalar font.now coords.now (regions_of self) region }
@@ -54,29 +79,10 @@ pub fn fill_scalars(
     ensures count { outcome result ≡ fill_count font.now store (length scalars.old) }
     ensures list { scalars.new ≡ filled font.now store coords.now scalars.old }
 {
-    if store == 0 {
-        return Err(Refusal::Absent);
-    }
-    let base = store as usize;
-    if font.len() < base + 6 {
-        return Err(Refusal::Short);
-    }
-    let offset = u32::from_be_data(font, base + 2);
-    let list = base + offset as usize;
-    if font.len() < list + 4 {
-        return Err(Refusal::Short);
-    }
-    let axis_count = u16::from_be_data(font, list);
-    let region_count = u16::from_be_data(font, list + 2);
-    if scalars.len() < region_count as usize {
+    let regions = RegionList::of(font, store)?;
+    if scalars.len() < regions.region_count as usize {
         return Err(Refusal::Room);
     }
-    let regions = RegionList {
-        store,
-        offset,
-        axis_count,
-        region_count,
-    };
     regions.write_scalars(font, coords, scalars);
-    Ok(region_count)
+    Ok(regions.region_count)
 }

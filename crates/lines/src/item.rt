@@ -2,10 +2,10 @@
 ghost use Rattle.std.specs.Prelude.{◌≡◌, ◌+◌, ◌*◌, ◌^◌, ◌<◌, ◌≤◌, length};
 ghost use Rattle.readers.specs.Outcome.{value};
 ghost use Rattle.readers.specs.Reading.{run};
-ghost use Rattle.readers.specs.Answers.{outcome_fixed};
-ghost use Rattle.opentype.specs.Item.{delta_at, row_sum};
+ghost use Rattle.readers.specs.Answers.{outcome, outcome_as, outcome_fixed};
+ghost use Rattle.opentype.specs.Item.{row_at, delta_at, row_sum};
 ghost use Rattle.opentype.specs.Lines.{scalar_from, item_delta_with};
-ghost use Rattle.lines.specs.LinesAnswers.{row_of, entry_end, named_scalar};
+ghost use Rattle.lines.specs.LinesAnswers.{row_from, entry_end, named_scalar, counted_regions};
 
 use numbers::Fixed;
 use readers::{FromBeData, Refusal};
@@ -17,12 +17,54 @@ struct Row {
     start: usize,
     count: u16,
     word_count: u16,
+    ghost few_words: { word_count ≤ count },
+    ghost indexes_before: { indexes + 2 * count ≤ start },
+    ghost start_bound: { start < 2 ^ 40 },
 }
 
 impl Row {
+    // The row of a delta-set index, which must be inside its subtable's item count.
+    fn at(font: &[u8], store: u32, outer: u32, inner: u16) -> Result<Row, Refusal>
+        ensures { outcome_as (λ r. row_from r.indexes r.count r.word_count r.start) result ≡ run font.now (row_at store outer inner) }
+    {
+        let base = store as usize;
+        let at = base + 8 + 4 * (outer as usize);
+        if font.len() < at + 4 {
+            return Err(Refusal::Short);
+        }
+        let subtable = base + u32::from_be_data(font, at) as usize;
+        if font.len() < subtable + 6 {
+            return Err(Refusal::Short);
+        }
+        let count = u16::from_be_data(font, subtable + 4);
+        let word_count = u16::from_be_data(font, subtable + 2);
+        if word_count > count {
+            return Err(Refusal::Arithmetic);
+        }
+        if inner >= u16::from_be_data(font, subtable) {
+            return Err(Refusal::Index);
+        }
+        let indexes = subtable + 6;
+        let start = indexes
+            + 2 * (count as usize)
+            + (inner as usize) * ((count as usize) + (word_count as usize));
+        Ok(Row {
+            indexes,
+            start,
+            count,
+            word_count,
+        })
+    }
+
+    // Where it ends.
+    fn end(self) -> usize
+        ensures { result ≡ self.start + (self.count + self.word_count) }
+    {
+        self.start + ((self.count as usize) + (self.word_count as usize))
+    }
+
     // Where entry k ends.
     fn entry_end(self, k: u16) -> usize
-        requires { self.start < 2 ^ 40 }
         ensures { result ≡ entry_end self.word_count self.start k }
     {
         if k < self.word_count {
@@ -63,8 +105,8 @@ impl Row {
 
     // The sum over the row: of each region in turn its index, its scalar, its entry. Two loops, since a test for each read in the first is slower (measured: DECISIONS 120). Here all that it reads is there, ..
     fn whole_sum(self, font: &[u8], scalars: &[i32]) -> Result<Fixed, Refusal>
-        requires { (self.word_count ≤ self.count) × (self.indexes + 2 * self.count ≤ self.start) × (self.start + (self.count + self.word_count) ≤ length font.now) }
-        ensures { outcome_fixed result ≡ run font.now (row_sum (scalar_from scalars.now) (length scalars.now) (row_of self)) }
+        requires { self.start + (self.count + self.word_count) ≤ length font.now }
+        ensures { outcome_fixed result ≡ run font.now (row_sum (scalar_from scalars.now) (length scalars.now) (row_from self.indexes self.count self.word_count self.start)) }
     {
         let mut sum = Fixed::ZERO;
         for k in 0..self.count {
@@ -76,8 +118,7 @@ impl Row {
 
     // .. and here each read is tested.
     fn cut_sum(self, font: &[u8], scalars: &[i32]) -> Result<Fixed, Refusal>
-        requires { (self.indexes < 2 ^ 40) × (self.start < 2 ^ 40) }
-        ensures { outcome_fixed result ≡ run font.now (row_sum (scalar_from scalars.now) (length scalars.now) (row_of self)) }
+        ensures { outcome_fixed result ≡ run font.now (row_sum (scalar_from scalars.now) (length scalars.now) (row_from self.indexes self.count self.word_count self.start)) }
     {
         let mut sum = Fixed::ZERO;
         for k in 0..self.count {
@@ -92,17 +133,20 @@ impl Row {
         }
         Ok(sum)
     }
+
+    fn sum(self, font: &[u8], scalars: &[i32]) -> Result<Fixed, Refusal>
+        ensures { outcome_fixed result ≡ run font.now (row_sum (scalar_from scalars.now) (length scalars.now) (row_from self.indexes self.count self.word_count self.start)) }
+    {
+        if font.len() < self.end() {
+            return self.cut_sum(font, scalars);
+        }
+        self.whole_sum(font, scalars)
+    }
 }
 
-// Returns a delta from an item variation store.
-pub fn item_delta_with(
-    font: &[u8],
-    store: u32,
-    outer: u32,
-    inner: u16,
-    scalars: &[i32],
-) -> Result<Fixed, Refusal>
-    ensures { outcome_fixed result ≡ item_delta_with font.now store outer inner scalars.now }
+// How many regions a store has, where it has the subtable `outer`.
+fn region_count(font: &[u8], store: u32, outer: u32) -> Result<u16, Refusal>
+    ensures { outcome result ≡ run font.now (counted_regions store outer) }
 {
     if store == 0 {
         return Err(Refusal::Absent);
@@ -118,38 +162,23 @@ pub fn item_delta_with(
     if font.len() < list + 4 {
         return Err(Refusal::Short);
     }
-    let at = base + 8 + 4 * (outer as usize);
-    if font.len() < at + 4 {
-        return Err(Refusal::Short);
-    }
-    let subtable = base + u32::from_be_data(font, at) as usize;
-    if font.len() < subtable + 6 {
-        return Err(Refusal::Short);
-    }
-    let count = u16::from_be_data(font, subtable + 4);
-    let word_count = u16::from_be_data(font, subtable + 2);
-    if word_count > count {
-        return Err(Refusal::Arithmetic);
-    }
-    if inner >= u16::from_be_data(font, subtable) {
-        return Err(Refusal::Index);
-    }
-    let region_count = u16::from_be_data(font, list + 2) as usize;
-    if scalars.len() < region_count {
+    Ok(u16::from_be_data(font, list + 2))
+}
+
+// Returns a delta from an item variation store.
+pub fn item_delta_with(
+    font: &[u8],
+    store: u32,
+    outer: u32,
+    inner: u16,
+    scalars: &[i32],
+) -> Result<Fixed, Refusal>
+    ensures { outcome_fixed result ≡ item_delta_with font.now store outer inner scalars.now }
+{
+    let regions = region_count(font, store, outer)? as usize;
+    let row = Row::at(font, store, outer, inner)?;
+    if scalars.len() < regions {
         return Err(Refusal::Room);
     }
-    let scalars = &scalars[..region_count];
-    let indexes = subtable + 6;
-    let size = (count as usize) + (word_count as usize);
-    let start = indexes + 2 * (count as usize) + (inner as usize) * size;
-    let row = Row {
-        indexes,
-        start,
-        count,
-        word_count,
-    };
-    if font.len() < start + size {
-        return row.cut_sum(font, scalars);
-    }
-    row.whole_sum(font, scalars)
+    row.sum(font, &scalars[..regions])
 }

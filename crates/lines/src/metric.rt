@@ -1,9 +1,10 @@
 // The delta of a glyph's advance or bearing, by HVAR or VVAR, with the scalars of the table's store in a list.
-ghost use Rattle.std.specs.Prelude.{◌≡◌, ◌+◌, ◌-◌, ◌<◌, ◌≤◌, length};
+ghost use Rattle.std.specs.Prelude.{◌≡◌, ◌+◌, ◌-◌, ◌^◌, ◌<◌, ◌≤◌, length};
 ghost use Rattle.readers.specs.Reading.{big_endian, run};
-ghost use Rattle.readers.specs.Answers.{outcome_fixed};
-ghost use Rattle.opentype.specs.Metric.{advance, bearing, float_of};
+ghost use Rattle.readers.specs.Answers.{outcome_as, outcome_fixed};
+ghost use Rattle.opentype.specs.Metric.{map_entry, advance, bearing, float_of};
 ghost use Rattle.opentype.specs.Lines.{metric_delta_with};
+ghost use Rattle.lines.specs.LinesAnswers.{index_of};
 ghost use Rattle.store.specs.MetricAnswers.{measure_of, place_of, place_outcome};
 
 use crate::item::item_delta_with;
@@ -20,27 +21,11 @@ fn ending_in(font: &[u8], last: usize, more: u16) -> u32
     u32::from_be_data(font, last - 3) & (u32::MAX >> (24 - 8 * (more as u32)))
 }
 
-// Where the HVAR or VVAR at base has the delta of a glyph's measure.
-fn place_in(font: &[u8], base: u32, measure: Measure, glyph_id: u16) -> Result<Place, Refusal>
-    ensures { place_outcome result ≡ run font.now (place_of base (measure_of measure) glyph_id) }
+// The outer and the inner index that the map at a position has for a glyph.
+fn map_entry(font: &[u8], map: usize, glyph_id: u16) -> Result<(u32, u16), Refusal>
+    requires { map < 2 ^ 34 }
+    ensures { outcome_as index_of result ≡ run font.now (map_entry map glyph_id) }
 {
-    let store = store_of(font, base)?;
-    let field = (base as usize) + map_field(measure);
-    if font.len() < field + 4 {
-        return Err(Refusal::Short);
-    }
-    let offset = u32::from_be_data(font, field);
-    if offset == 0 {
-        return match measure {
-            Measure::Advance => Ok(Place {
-                store,
-                outer: 0,
-                inner: glyph_id,
-            }),
-            Measure::Bearing => Err(Refusal::Absent),
-        };
-    }
-    let map = (base as usize) + (offset as usize);
     if font.len() < map + 4 {
         return Err(Refusal::Short);
     }
@@ -59,11 +44,38 @@ fn place_in(font: &[u8], base: u32, measure: Measure, glyph_id: u16) -> Result<P
     }
     let entry = ending_in(font, last, more);
     let bits = (format % 16 + 1) as u32;
-    Ok(Place {
-        store,
-        outer: (entry >> bits) % 0x1_0000,
-        inner: (entry & ((1 << bits) - 1)) as u16,
-    })
+    Ok((
+        (entry >> bits) % 0x1_0000,
+        (entry & ((1 << bits) - 1)) as u16,
+    ))
+}
+
+// Where the HVAR or VVAR at base has the delta of a glyph's measure.
+fn place_in(font: &[u8], base: u32, measure: Measure, glyph_id: u16) -> Result<Place, Refusal>
+    ensures { place_outcome result ≡ run font.now (place_of base (measure_of measure) glyph_id) }
+{
+    let store = store_of(font, base)?;
+    let field = (base as usize) + map_field(measure);
+    if font.len() < field + 4 {
+        return Err(Refusal::Short);
+    }
+    let offset = u32::from_be_data(font, field);
+    if offset != 0 {
+        let (outer, inner) = map_entry(font, (base as usize) + (offset as usize), glyph_id)?;
+        return Ok(Place {
+            store,
+            outer,
+            inner,
+        });
+    }
+    match measure {
+        Measure::Advance => Ok(Place {
+            store,
+            outer: 0,
+            inner: glyph_id,
+        }),
+        Measure::Bearing => Err(Refusal::Absent),
+    }
 }
 
 // The delta of a glyph's measure, by the HVAR or VVAR at base.

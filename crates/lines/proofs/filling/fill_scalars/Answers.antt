@@ -1,39 +1,24 @@
 -- `lines::filling::fill_scalars` meets its contract. Assumes nothing.
-use Rattle.lines.specs.LinesAnswers.{regions_at}
-use Rattle.lines.proofs.FillLaws.{fill_left, fill_wrote, no_store, offset_cut, list_cut, room_short, roomed}
+use mathlib.Core.Path.{refl, ◌∙◌}
+use borrow.Author.Tests.{le-leb, lt-leb}
+use Rattle.readers.proofs.Reading.{went_on_call, stop_by, handed_on, passed, failed, answered}
+use Rattle.lines.proofs.FillLaws.{fill_left, fill_wrote}
 use Rattle.lines.proofs.filling.fill_scalars.Goals as goal
 
-pub returns-then-store-eq0 : goal.returns-then-store-eq0
-returns-then-store-eq0 c =
+pub returns-in_err-regions : goal.returns-in_err-regions
+returns-in_err-regions c =
     let a = c.args in
-    let left = fill_left a.font.now a.store a.coords.now a.scalars.now 1 (no_store _ _ _ c.if-store-eq0.true) in
-    record { count = left.0; list = left.1 }
+    let left = fill_left a.font.now a.store a.coords.now a.scalars.now _ (stop_by (λ o. o) _ _ _ c.in_err-regions.ensures refl refl) in
+    record { count = handed_on (λ x. x) _ _ c.from_residual.ensures ∙ left.0; list = left.1 }
 
-pub returns-then-font-base : goal.returns-then-font-base
-returns-then-font-base c =
+pub returns-then-scalars-regions : goal.returns-then-scalars-regions
+returns-then-scalars-regions c =
     let a = c.args in
-    let left = fill_left a.font.now a.store a.coords.now a.scalars.now 2 (offset_cut _ _ _ c.if-store-eq0.false c.if-font-base.true) in
-    record { count = left.0; list = left.1 }
-
-pub returns-then-font-list : goal.returns-then-font-list
-returns-then-font-list c =
-    let a = c.args in
-    let left = fill_left a.font.now a.store a.coords.now a.scalars.now 2 (list_cut _ _ _ c.if-store-eq0.false c.if-font-base.false _ c.from_be_data-offset.ensures c.if-font-list.true) in
-    record { count = left.0; list = left.1 }
-
-pub returns-then-scalars-region_count : goal.returns-then-scalars-region_count
-returns-then-scalars-region_count c =
-    let a = c.args in
-    let left =
-    fill_left a.font.now a.store a.coords.now a.scalars.now 7
-    (room_short _ _ _ c.if-store-eq0.false c.if-font-base.false _ c.from_be_data-offset.ensures c.if-font-list.false _ _ c.from_be_data-axis_count.ensures c.from_be_data-region_count.ensures c.if-scalars-region_count.true) in
+    let left = fill_left a.font.now a.store a.coords.now a.scalars.now 7 (went_on_call _ _ _ _ c.in_ok-regions.ensures (failed _ _ _ _ (lt-leb _ _ c.if-scalars-regions.true))) in
     record { count = left.0; list = left.1 }
 
 pub returns : goal.returns
 returns c =
     let a = c.args in
-    let wrote =
-    fill_wrote a.font.now a.store a.coords.now a.scalars.now (regions_at _ c.from_be_data-offset.result c.from_be_data-axis_count.result c.from_be_data-region_count.result) _
-    (roomed _ _ _ c.if-store-eq0.false c.if-font-base.false _ c.from_be_data-offset.ensures c.if-font-list.false _ _ c.from_be_data-axis_count.ensures c.from_be_data-region_count.ensures c.if-scalars-region_count.false)
-    c.write_scalars.ensures in
+    let wrote = fill_wrote a.font.now a.store a.coords.now a.scalars.now _ _ (went_on_call _ _ _ _ c.in_ok-regions.ensures (passed _ _ _ _ _ (le-leb _ _ c.if-scalars-regions.false) (answered _ _))) c.write_scalars.ensures in
     record { count = wrote.0; list = wrote.1 }

@@ -1,76 +1,44 @@
 -- `lines::item::item_delta_with` meets its contract. Assumes nothing.
-use Prim.Native.Nat.{ℕ, ◌+◌, ◌*◌, ◌≤◌, ◌<◌}
-use mathlib.Core.Path.{◌≡◌, refl}
+use Prim.Native.Nat.{ℕ}
+use mathlib.Core.Path.{◌≡◌, refl, ◌∙◌}
 use mathlib.Core.List.{List}
+use lib.IntN.{ℤ}
+use lib.Dec.{leb}
 use lib.ListN.{length}
-use Rattle.readers.specs.Reading.{big_endian}
-use Rattle.lines.proofs.Heads.{Listed, Subtable, no_store, head_cut, outer_large, list_cut, offset_cut, subtable_cut, words_many, inner_large, list_short, summed}
+use lib.Seq.{length-take-le}
+use borrow.Author.Tests.{le-leb, lt-leb}
+use Rattle.readers.specs.Reading.{Reading, ◌>>=◌, ◌>>◌, check, unsigned_at, run}
+use Rattle.readers.proofs.Reading.{went_on_call, stopped_call, passed, failed}
+use Rattle.opentype.specs.Item.{Row, region_list, row_at, item_at, row_sum}
+use Rattle.opentype.specs.Lines.{scalar_from, item_sum_with, delta_with, item_delta_with}
+use Rattle.lines.specs.LinesAnswers.{counted_regions}
+use Rattle.lines.proofs.Rows.{cut_list}
 use Rattle.lines.proofs.item.item_delta_with.Goals as goal
 
--- What the tests have shown, up to the region list and up to the subtable's counts.
-module _ (font : List ℕ) (store outer count offset : ℕ) (some : store ≡ 0 → ⊥) (head : store + 8 ≤ length font) (counted : count ≡ big_endian 2 font (store + 6)) (named : outer < count)
-    (list : offset ≡ big_endian 4 font (store + 2)) (there : store + offset + 4 ≤ length font) where
-  abbrev listed : Listed font store outer
-  listed = record { some = some; head = head; count = count; counted = counted; named = named; offset = offset; listed = list; list = there }
+-- What is left once the regions are counted and the row is known.
+abbrev rest : List ℤ → ℕ → Row → Reading ℤ
+rest scalars regions row = check (leb regions (length scalars)) 7 >> row_sum (scalar_from scalars) regions row
 
-  abbrev subtable : (place indexes words : ℕ) → store + 8 + 4 * outer + 4 ≤ length font → place ≡ big_endian 4 font (store + 8 + 4 * outer) → store + place + 6 ≤ length font
-      → indexes ≡ big_endian 2 font (store + place + 4) → words ≡ big_endian 2 font (store + place + 2)
-      → Subtable font store outer
-  subtable place indexes words offsets found there many wide =
-      record { regions = listed; offsets = offsets; place = place; found = found; there = there; indexes = indexes; words = words; many = many; wide = wide }
+-- The two steps of the code: the regions, and the row.
+in_steps : (font : List ℕ) (store outer inner : ℕ) (scalars : List ℤ)
+    → run font (counted_regions store outer >>= λ regions. row_at store outer inner >>= λ row. rest scalars regions row) ≡ item_delta_with font store outer inner scalars
+unfolding item_delta_with delta_with item_at region_list row_at item_sum_with counted_regions unsigned_at
+in_steps font store outer inner scalars = refl
 
-pub returns-then-store-eq0 : goal.returns-then-store-eq0
-returns-then-store-eq0 c = no_store _ _ _ _ _ c.if-store-eq0.true
+pub returns-in_err-regions : goal.returns-in_err-regions
+returns-in_err-regions c = stopped_call _ _ _ _ _ _ c.from_residual.ensures c.in_err-regions.ensures ∙ in_steps _ _ _ _ _
 
-pub returns-then-font-base : goal.returns-then-font-base
-returns-then-font-base c = head_cut _ _ _ _ _ c.if-store-eq0.false c.if-font-base.true
+pub returns-in_err-row : goal.returns-in_err-row
+returns-in_err-row c =
+    went_on_call _ _ _ _ c.in_ok-regions.ensures (stopped_call _ _ _ _ _ _ c.from_residual-in_err-row.ensures c.in_err-row.ensures) ∙ in_steps _ _ _ _ _
 
-pub returns-then-outer-from_be_data : goal.returns-then-outer-from_be_data
-returns-then-outer-from_be_data c = outer_large _ _ _ _ _ c.if-store-eq0.false c.if-font-base.false _ c.from_be_data.ensures c.if-outer-from_be_data.true
-
-pub returns-then-font-list : goal.returns-then-font-list
-returns-then-font-list c =
-    list_cut _ _ _ _ _ c.if-store-eq0.false c.if-font-base.false _ c.from_be_data.ensures c.if-outer-from_be_data.false _ c.from_be_data-2.ensures c.if-font-list.true
-
-pub returns-then-font-at : goal.returns-then-font-at
-returns-then-font-at c =
-    offset_cut _ _ _ _ _ (listed _ _ _ _ _ c.if-store-eq0.false c.if-font-base.false c.from_be_data.ensures c.if-outer-from_be_data.false c.from_be_data-2.ensures c.if-font-list.false) _ refl c.if-font-at.true
-
-pub returns-then-font-subtable : goal.returns-then-font-subtable
-returns-then-font-subtable c =
-    subtable_cut _ _ _ _ _ (listed _ _ _ _ _ c.if-store-eq0.false c.if-font-base.false c.from_be_data.ensures c.if-outer-from_be_data.false c.from_be_data-2.ensures c.if-font-list.false) _ refl _ c.if-font-at.false c.from_be_data-3.ensures c.if-font-subtable.true
-
-pub returns-then-word_count-count : goal.returns-then-word_count-count
-returns-then-word_count-count c =
-    words_many _ _ _ _ _
-    (subtable _ _ _ _ _ c.if-store-eq0.false c.if-font-base.false c.from_be_data.ensures c.if-outer-from_be_data.false c.from_be_data-2.ensures c.if-font-list.false
-    _ _ _ c.if-font-at.false c.from_be_data-3.ensures c.if-font-subtable.false c.from_be_data-count.ensures c.from_be_data-word_count.ensures)
-    _ refl c.if-word_count-count.true
-
-pub returns-then-inner-from_be_data : goal.returns-then-inner-from_be_data
-returns-then-inner-from_be_data c =
-    inner_large _ _ _ _ _
-    (subtable _ _ _ _ _ c.if-store-eq0.false c.if-font-base.false c.from_be_data.ensures c.if-outer-from_be_data.false c.from_be_data-2.ensures c.if-font-list.false
-    _ _ _ c.if-font-at.false c.from_be_data-3.ensures c.if-font-subtable.false c.from_be_data-count.ensures c.from_be_data-word_count.ensures)
-    _ refl c.if-word_count-count.false _ c.from_be_data-4.ensures c.if-inner-from_be_data.true
-
-pub returns-then-scalars-region_count : goal.returns-then-scalars-region_count
-returns-then-scalars-region_count c =
-    list_short _ _ _ _ _
-    (subtable _ _ _ _ _ c.if-store-eq0.false c.if-font-base.false c.from_be_data.ensures c.if-outer-from_be_data.false c.from_be_data-2.ensures c.if-font-list.false
-    _ _ _ c.if-font-at.false c.from_be_data-3.ensures c.if-font-subtable.false c.from_be_data-count.ensures c.from_be_data-word_count.ensures)
-    _ c.from_be_data-region_count.ensures c.if-word_count-count.false _ c.from_be_data-4.ensures c.if-inner-from_be_data.false c.if-scalars-region_count.true
-
-pub returns-then-font-start : goal.returns-then-font-start
-returns-then-font-start c =
-    summed _ _ _ _ _
-    (subtable _ _ _ _ _ c.if-store-eq0.false c.if-font-base.false c.from_be_data.ensures c.if-outer-from_be_data.false c.from_be_data-2.ensures c.if-font-list.false
-    _ _ _ c.if-font-at.false c.from_be_data-3.ensures c.if-font-subtable.false c.from_be_data-count.ensures c.from_be_data-word_count.ensures)
-    _ c.from_be_data-region_count.ensures c.if-word_count-count.false _ c.from_be_data-4.ensures _ c.if-inner-from_be_data.false c.if-scalars-region_count.false c.cut_sum.ensures
+pub returns-then-scalars-regions : goal.returns-then-scalars-regions
+returns-then-scalars-regions c =
+    went_on_call _ _ _ _ c.in_ok-regions.ensures (went_on_call _ _ _ _ c.in_ok-row.ensures (failed _ _ _ _ (lt-leb _ _ c.if-scalars-regions.true))) ∙ in_steps _ _ _ _ _
 
 pub returns : goal.returns
 returns c =
-    summed _ _ _ _ _
-    (subtable _ _ _ _ _ c.if-store-eq0.false c.if-font-base.false c.from_be_data.ensures c.if-outer-from_be_data.false c.from_be_data-2.ensures c.if-font-list.false
-    _ _ _ c.if-font-at.false c.from_be_data-3.ensures c.if-font-subtable.false c.from_be_data-count.ensures c.from_be_data-word_count.ensures)
-    _ c.from_be_data-region_count.ensures c.if-word_count-count.false _ c.from_be_data-4.ensures _ c.if-inner-from_be_data.false c.if-scalars-region_count.false c.whole_sum.ensures
+    went_on_call _ _ _ _ c.in_ok-regions.ensures
+    (went_on_call _ _ _ _ c.in_ok-row.ensures
+    (passed _ _ _ _ _ (le-leb _ _ c.if-scalars-regions.false) (rw (length-take-le _ c.args.scalars.now c.if-scalars-regions.false) at c.sum.ensures ∙ cut_list _ _ _ _)))
+    ∙ in_steps _ _ _ _ _

@@ -1,7 +1,4 @@
 -- `lines::mvar::mvar_delta_with` meets its contract. Assumes nothing.
-use Prim.Native.Nat.{ℕ, ◌<◌}
-use mathlib.Core.Path.{◌∙◌}
-use mathlib.Core.Logic.{◌⊎◌, inl, inr}
 use native.Mathlib.Omega.{arith}
 use Rattle.readers.specs.Reading.{unsigned_at}
 use Rattle.readers.proofs.Bytes.{missing}
@@ -13,14 +10,9 @@ use Rattle.store.proofs.Search.{found_small}
 use Rattle.store.proofs.Records.{inner_stops, outer_stops, both_took}
 use Rattle.lines.proofs.mvar.mvar_delta_with.Goals as goal
 
--- What `get` says of a range that is no part of the font.
-past : (n start : ℕ) → (n < start) ⊎ (n < n) → n < start
-past n start (inl h) = h
-past n start (inr h) = absurd (omega arith)
-
-pub returns-in_default : goal.returns-in_default
+pub returns-then-start-font : goal.returns-then-start-font
 unfolding mvar_delta_with header_at unsigned_at
-returns-in_default c = rw (past_end _ _ (past _ _ c.in_default.ensures.lookup.0)) (missing 2 _ 6 _ (omega arith))
+returns-then-start-font c = rw (past_end _ _ c.if-start-font.true) (missing 2 _ 6 _ (omega arith))
 
 pub returns-in_err-header : goal.returns-in_err-header
 unfolding mvar_delta_with
@@ -30,7 +22,7 @@ pub returns-in_err-at : goal.returns-in_err-at
 unfolding mvar_delta_with find
 returns-in_err-at c =
     went_on_call _ _ _ _ c.in_ok-header.ensures
-    (stopped_call _ _ _ _ _ _ c.from_residual-in_err-at.ensures (rw (c.in-Some.ensures.lookup.0.2 ∙ rest c.args.font.now c.args.mvar) at c.in_err-at.ensures))
+    (stopped_call _ _ _ _ _ _ c.from_residual-in_err-at.ensures (rw (rest c.args.font.now c.args.mvar) at c.in_err-at.ensures))
 
 -- The record's own positions don't wrap.
 pub overflow_add-at : goal.overflow_add-at
@@ -39,7 +31,7 @@ overflow_add-at c = omega (arith, found_small _ _ _ _ 0 _ (omega arith) (omega a
 pub returns-in_err-inner : goal.returns-in_err-inner
 unfolding mvar_delta_with find
 returns-in_err-inner c =
-    let part = c.in-Some.ensures.lookup.0.2 ∙ rest c.args.font.now c.args.mvar in
+    let part = rest c.args.font.now c.args.mvar in
     went_on_call _ _ _ _ c.in_ok-header.ensures
     (went_on_call _ _ _ _ (rw part at c.in_ok-at.ensures)
     (inner_stops _ _ _ _ _ _ c.from_residual-in_err-inner.ensures (rw part at c.in_err-inner.ensures)))
@@ -50,7 +42,7 @@ overflow_add-at-2 c = omega (arith, found_small _ _ _ _ 0 _ (omega arith) (omega
 pub returns-in_err-outer : goal.returns-in_err-outer
 unfolding mvar_delta_with find
 returns-in_err-outer c =
-    let part = c.in-Some.ensures.lookup.0.2 ∙ rest c.args.font.now c.args.mvar in
+    let part = rest c.args.font.now c.args.mvar in
     went_on_call _ _ _ _ c.in_ok-header.ensures
     (went_on_call _ _ _ _ (rw part at c.in_ok-at.ensures)
     (outer_stops _ _ _ (rw part at c.in_ok-inner.ensures) _ _ _ c.from_residual-in_err-outer.ensures (rw part at c.in_err-outer.ensures)))
@@ -58,7 +50,7 @@ returns-in_err-outer c =
 pub returns : goal.returns
 unfolding mvar_delta_with find item_delta_with
 returns c =
-    let part = c.in-Some.ensures.lookup.0.2 ∙ rest c.args.font.now c.args.mvar in
+    let part = rest c.args.font.now c.args.mvar in
     went_on_call _ _ _ _ c.in_ok-header.ensures
     (went_on_call _ _ _ _ (rw part at c.in_ok-at.ensures)
     (both_took _ _ _ (rw part at c.in_ok-inner.ensures) _ (rw part at c.in_ok-outer.ensures) (rw part at c.item_delta_with.ensures)))

@@ -8,8 +8,7 @@ use Rattle.numbers.specs.Numbers.{wrap32}
 use Rattle.readers.proofs.Reading.{answered}
 use Rattle.readers.proofs.Walk.{run_turned, run_ended}
 use Rattle.opentype.specs.Item.{row_sum}
-use Rattle.lines.specs.LinesAnswers.{row_of}
-use Rattle.lines.proofs.Rows.{index_cut, scalar_stops, entry_cut, turned}
+use Rattle.lines.proofs.Rows.{row_of, index_cut, scalar_stops, entry_cut, turned}
 use Rattle.lines.proofs.item.Row.cut_sum.Goals as goal
 
 -- What `add_product` said, of the entry itself.

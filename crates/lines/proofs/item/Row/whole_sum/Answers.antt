@@ -8,8 +8,7 @@ use Rattle.numbers.specs.Numbers.{wrap32}
 use Rattle.readers.proofs.Reading.{answered}
 use Rattle.readers.proofs.Walk.{run_turned, run_ended}
 use Rattle.opentype.specs.Item.{row_sum}
-use Rattle.lines.specs.LinesAnswers.{row_of}
-use Rattle.lines.proofs.Rows.{scalar_stops, turned, entry_before}
+use Rattle.lines.proofs.Rows.{row_of, scalar_stops, turned, entry_before}
 use Rattle.lines.proofs.item.Row.whole_sum.Goals as goal
 
 -- What `add_product` said, of the entry itself.
@@ -27,8 +26,8 @@ returns-in_err-scalar c =
 
 pub entry-requires : goal.entry-requires
 entry-requires c =
-    let row = c.args.self in
-    omega (arith, entry_before c.args.font.now row.word_count row.start c.loop-k.k row.count c.loop-k-test.true c.requires.0)
+    let r = c.args.self in
+    omega (arith, entry_before c.args.font.now r.word_count r.start c.loop-k.k r.count c.loop-k-test.true r.few_words)
 
 pub loop-k-preserved : goal.loop-k-preserved
 loop-k-preserved c =

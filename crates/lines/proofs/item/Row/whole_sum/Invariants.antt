@@ -5,7 +5,7 @@ use Rattle.readers.specs.Reading.{answer, run}
 use Rattle.readers.specs.Walk.{walk}
 use Rattle.opentype.specs.Item.{row_turn, row_sum}
 use Rattle.opentype.specs.Lines.{scalar_from}
-use Rattle.lines.specs.LinesAnswers.{row_of}
+use Rattle.lines.proofs.Rows.{row_of}
 use Rattle.lines.proofs.item.Row.whole_sum.Given as goal
 
 abbrev pub invariant-loop-k : goal.invariant-loop-k

@@ -9,7 +9,7 @@ ghost use Rattle.suolluvik.specs.Numbered.{numbered, numbered_float};
 
 use lines::filling::fill_scalars;
 use lines::metric::advance_delta_fixed_with;
-use suolluvik::counts::count_value;
+use suolluvik::answers::answered;
 use suolluvik::deltas::float_value;
 
 // Fills a list with the scalars of the regions of the store at an offset; count is how many there are.
@@ -24,7 +24,7 @@ pub extern "C" fn suolluvik_fill_scalars(
     ensures count { (result, count.new) ≡ numbered 0 (fill_count font.now store (length scalars.old)) }
     ensures list { scalars.new ≡ filled font.now store coords.now scalars.old }
 {
-    count_value(fill_scalars(font, store, coords, scalars), count)
+    answered(fill_scalars(font, store, coords, scalars), 0, count)
 }
 
 // The delta of a glyph's advance by the HVAR or VVAR at xvar, with a filled list; as a float.

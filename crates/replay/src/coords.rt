@@ -4,9 +4,11 @@ use crate::old;
 use crate::parse::{Bytes, bits, bytes, fixed, float, index, list, natural, room};
 use crate::print::Output;
 use arrayvec::ArrayVec;
+use axes::avar::adjust_axis;
 use axes::axis::VarAxis;
 use axes::fvar::Fvar;
 use axes::variation;
+use numbers::Fixed;
 
 #[derive(Drop)]
 struct Avar {
@@ -15,34 +17,46 @@ struct Avar {
 }
 
 impl Avar {
-    fn read(words: &[&[u8]]) -> Option<Avar> {
+    fn none() -> Avar {
+        Avar {
+            font: ArrayVec::new(),
+            offset: 0,
+        }
+    }
+
+    fn read(font: &[u8], offset: &[u8]) -> Option<Avar> {
+        Some(Avar {
+            font: bytes(font)?,
+            offset: natural(offset)?,
+        })
+    }
+
+    // The last words of a case that may be without.
+    fn read_any(words: &[&[u8]]) -> Option<Avar> {
         match words {
-            [] => Some(Avar {
-                font: ArrayVec::new(),
-                offset: 0,
-            }),
-            [font, offset] => Some(Avar {
-                font: bytes(font)?,
-                offset: natural(offset)?,
-            }),
+            [] => Some(Avar::none()),
+            [font, offset] => Avar::read(font, offset),
             _ => None,
         }
     }
 }
 
-// The largest 2.14 number stands where none was written: no coordinate has it but by an avar.
-const MARK: i16 = 32767;
+// Stands where no coordinate was written: none is the largest 2.14 number but by an avar.
+const MARK: i16 = i16::MAX;
 
 pub(crate) fn answer(words: &[&[u8]], out: &mut Output) -> Option<()> {
     match words {
-        [b"adjust_axis", axis, value, font, offset] => out.value(axes::avar::adjust_axis(
-            &bytes(font)?,
-            natural(offset)?,
-            index(axis)?,
-            fixed(value)?,
-        )),
+        [b"adjust_axis", axis, value, font, offset] => {
+            let avar = Avar::read(font, offset)?;
+            out.value(adjust_axis(&avar.font, avar.offset, index(axis)?, fixed(value)?))
+        }
         [b"normalized_coord", min, default, max, value] => {
-            put_coord(axis(0, min, default, max)?, value, &[], out)?
+            put_coord(
+                axis(0, min, default, max)?,
+                fixed(value)?,
+                &Avar::none(),
+                out,
+            )
         }
         [
             b"normalized_coord",
@@ -54,15 +68,11 @@ pub(crate) fn answer(words: &[&[u8]], out: &mut Output) -> Option<()> {
             font,
             offset,
         ] => {
-            put_coord(
-                axis(index(i)?, min, default, max)?,
-                value,
-                &[*font, *offset],
-                out,
-            )?
+            let axis = axis(index(i)?, min, default, max)?;
+            put_coord(axis, fixed(value)?, &Avar::read(font, offset)?, out)
         }
         [b"normalized_coords", table, tags, values, size, avar @ ..] => {
-            let avar = Avar::read(avar)?;
+            let avar = Avar::read_any(avar)?;
             let table = bytes(table)?;
             let mut coords = room(size, MARK)?;
             out.put(old::half(variation::normalized_coords(
@@ -77,7 +87,7 @@ pub(crate) fn answer(words: &[&[u8]], out: &mut Output) -> Option<()> {
             out.list(&coords)
         }
         [b"instance_coords", table, i, size, avar @ ..] => {
-            let avar = Avar::read(avar)?;
+            let avar = Avar::read_any(avar)?;
             let table = bytes(table)?;
             let mut coords = room(size, MARK)?;
             out.put(old::half(variation::instance_coords(
@@ -95,10 +105,8 @@ pub(crate) fn answer(words: &[&[u8]], out: &mut Output) -> Option<()> {
     Some(())
 }
 
-fn put_coord(axis: VarAxis, value: &[u8], avar: &[&[u8]], out: &mut Output) -> Option<()> {
-    let avar = Avar::read(avar)?;
-    out.put(old::f2dot14(axis.normalized_coord(fixed(value)?, &avar.font, avar.offset)));
-    Some(())
+fn put_coord(axis: VarAxis, value: Fixed, avar: &Avar, out: &mut Output) {
+    out.put(old::f2dot14(axis.normalized_coord(value, &avar.font, avar.offset)))
 }
 
 fn axis(index: u16, min: &[u8], default: &[u8], max: &[u8]) -> Option<VarAxis> {

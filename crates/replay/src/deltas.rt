@@ -1,6 +1,6 @@
 // Cases of the item variation store, of a glyph's deltas and of MVAR, and its tags.
 use crate::old;
-use crate::parse::{bits, bytes, halves, index, natural};
+use crate::parse::{Place, bits, bytes, index, natural};
 use crate::print::{Output, Print};
 use store::metric::float_of;
 use store::mvar::Header;
@@ -13,50 +13,46 @@ pub(crate) fn answer(words: &[&[u8]], out: &mut Output) -> Option<()> {
         [b"mvar_new", font, offset] => {
             out.put(old::header(mvar::mvar_header(&bytes(font)?, natural(offset)?)))
         }
-        [b"item_delta", font, store, outer, inner, coords] => out.put(old::fixed(
-            item::item_delta(
-                &bytes(font)?,
-                natural(store)?,
-                natural(outer)?,
+        [b"item_delta", font, store, outer, inner, coords] => {
+            let at = Place::read(font, store, coords)?;
+            let outer = natural(outer)?;
+            out.put(old::fixed(item::item_delta(
+                &at.font,
+                at.offset,
+                outer,
                 index(inner)?,
-                &halves(coords)?,
-            ),
-        )),
+                &at.coords,
+            )))
+        }
         [name, font, offset, what, coords] => {
-            return of_four(
-                name,
-                &bytes(font)?,
-                natural(offset)?,
-                what,
-                &halves(coords)?,
-                out,
-            );
+            put_delta(name, &Place::read(font, offset, coords)?, what, out)?
         }
         _ => return None,
     }
     Some(())
 }
 
-// A tag's delta, or a glyph's.
-fn of_four<'a>(
-    name: &[u8],
-    font: &'a [u8],
-    offset: u32,
-    what: &[u8],
-    coords: &'a [i16],
-    out: &mut Output,
-) -> Option<()> {
+// The delta of a tag or a glyph.
+fn put_delta(name: &[u8], at: &Place, what: &[u8], out: &mut Output) -> Option<()> {
+    let Place {
+        font,
+        offset,
+        coords,
+    } = at;
     match name {
-        b"mvar_fixed" => out.put(old::fixed(mvar::mvar_delta(font, offset, bits(what)?, coords))),
-        b"mvar_delta" => out.value(float_of(mvar::mvar_delta(font, offset, bits(what)?, coords))),
+        b"mvar_fixed" => out.put(old::fixed(mvar::mvar_delta(font, *offset, bits(what)?, coords))),
+        b"mvar_delta" => out.value(float_of(mvar::mvar_delta(font, *offset, bits(what)?, coords))),
         b"advance_fixed" => {
-            out.put(old::fixed(metric::advance_delta_fixed(font, offset, index(what)?, coords)))
+            out.put(old::fixed(metric::advance_delta_fixed(font, *offset, index(what)?, coords)))
         }
-        b"sb_fixed" => {
-            out.put(old::fixed(metric::sb_delta_fixed(font, offset, index(what)?, coords)))
-        }
-        b"advance_delta" => out.value(metric::advance_delta(font, offset, index(what)?, coords)),
-        b"sb_delta" => out.value(metric::sb_delta(font, offset, index(what)?, coords)),
+        b"sb_fixed" => out.put(old::fixed(metric::sb_delta_fixed(
+            font,
+            *offset,
+            index(what)?,
+            coords,
+        ))),
+        b"advance_delta" => out.value(metric::advance_delta(font, *offset, index(what)?, coords)),
+        b"sb_delta" => out.value(metric::sb_delta(font, *offset, index(what)?, coords)),
         _ => return None,
     }
     Some(())

@@ -1,8 +1,7 @@
 // Cases of a font's measures.
-use crate::parse::{bytes, flag, float, halves, index, list, natural};
+use crate::parse::{Place, flag, float, index, list};
 use crate::print::Output;
-use metrics::measures;
-use metrics::measures::Metrics;
+use metrics::measures::{Metrics, materialize_metrics};
 
 pub(crate) fn answer(words: &[&[u8]], out: &mut Output) -> Option<()> {
     match words {
@@ -24,13 +23,9 @@ pub(crate) fn answer(words: &[&[u8]], out: &mut Output) -> Option<()> {
             measures,
         ] => {
             let unvaried = read(measures, 0, flag(has_vertical_metrics)?)?;
+            let at = Place::read(font, mvar, coords)?;
             put(
-                measures::materialize_metrics(
-                    unvaried,
-                    &bytes(font)?,
-                    natural(mvar)?,
-                    &halves(coords)?,
-                ),
+                materialize_metrics(unvaried, &at.font, at.offset, &at.coords),
                 out,
             )
         }

@@ -74,6 +74,24 @@ pub(crate) fn halves(text: &[u8]) -> Option<List<i16>> {
     list(text, half)
 }
 
+// A table of a font, by its offset there, and coordinates.
+#[derive(Drop)]
+pub(crate) struct Place {
+    pub(crate) font: Bytes,
+    pub(crate) offset: u32,
+    pub(crate) coords: List<i16>,
+}
+
+impl Place {
+    pub(crate) fn read(font: &[u8], offset: &[u8], coords: &[u8]) -> Option<Place> {
+        Some(Place {
+            font: bytes(font)?,
+            offset: natural(offset)?,
+            coords: halves(coords)?,
+        })
+    }
+}
+
 // A list to be written to, of as many elements as the text says. A mark stands where nothing was written.
 pub(crate) fn room<T: Default + Copy + Drop>(text: &[u8], mark: T) -> Option<List<T>> {
     let mut list = ArrayVec::new();

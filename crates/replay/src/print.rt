@@ -2,7 +2,7 @@
 ghost use Rattle.std.specs.Prelude.{◌≡◌, []};
 
 use arrayvec::ArrayVec;
-use itoa::Buffer;
+use itoa::{Buffer, Integer};
 use numbers::{F2Dot14, Fixed};
 use readers::Refusal;
 use std::io;
@@ -55,6 +55,10 @@ impl Output {
         }
     }
 
+    fn decimal(&mut self, n: impl Integer) {
+        self.text(Buffer::new().format(n).as_bytes())
+    }
+
     pub(crate) fn put(&mut self, x: impl Print) {
         x.print(self)
     }
@@ -99,15 +103,15 @@ pub(crate) trait Print {
     fn print(self, out: &mut Output);
 }
 
-impl Print for u32 {
+impl Print for u16 {
     fn print(self, out: &mut Output) {
-        out.text(Buffer::new().format(self).as_bytes())
+        out.decimal(self)
     }
 }
 
-impl Print for u16 {
+impl Print for u32 {
     fn print(self, out: &mut Output) {
-        out.put(u32::from(self))
+        out.decimal(self)
     }
 }
 
@@ -119,20 +123,20 @@ impl Print for bool {
 
 impl Print for i16 {
     fn print(self, out: &mut Output) {
-        out.text(Buffer::new().format(self).as_bytes())
+        out.decimal(self)
     }
 }
 
-// Its raw integer, as of the 16.16 number.
+// A 2.14 or 16.16 number is printed as its raw integer.
 impl Print for F2Dot14 {
     fn print(self, out: &mut Output) {
-        out.put(self.0)
+        out.decimal(self.0)
     }
 }
 
 impl Print for Fixed {
     fn print(self, out: &mut Output) {
-        out.text(Buffer::new().format(self.0).as_bytes())
+        out.decimal(self.0)
     }
 }
 

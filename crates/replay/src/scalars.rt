@@ -1,6 +1,6 @@
 // Cases of scalars in a lent list: where a store is, filling a list, and the deltas that are read with one.
 use crate::old;
-use crate::parse::{bits, bytes, halves, index, list, natural, scalar};
+use crate::parse::{Place, bits, bytes, index, list, natural, scalar};
 use crate::print::Output;
 use lines::filling::fill_scalars;
 use lines::{item, metric, mvar};
@@ -28,13 +28,9 @@ pub(crate) fn answer(words: &[&[u8]], out: &mut Output) -> Option<()> {
             out.put(old::half(mvar::mvar_store(&bytes(font)?, natural(offset)?)))
         }
         [b"fill_scalars", font, store, coords, scalars] => {
+            let at = Place::read(font, store, coords)?;
             let mut scalars = list(scalars, scalar)?;
-            out.put(old::half(fill_scalars(
-                &bytes(font)?,
-                natural(store)?,
-                &halves(coords)?,
-                &mut scalars,
-            )));
+            out.put(old::half(fill_scalars(&at.font, at.offset, &at.coords, &mut scalars)));
             out.list(&scalars)
         }
         [name, font, offset, what @ .., scalars] if name.ends_with(b"_with") => {
@@ -49,13 +45,12 @@ pub(crate) fn answer(words: &[&[u8]], out: &mut Output) -> Option<()> {
         // what filling answers, the list, and the delta that is read with what was left
         [name, font, offset, what @ .., coords, scalars] => {
             let delta = Delta::read(name.strip_suffix(b"_filled")?, what)?;
-            let font = bytes(font)?;
-            let offset = natural(offset)?;
+            let at = Place::read(font, offset, coords)?;
             let mut scalars = list(scalars, scalar)?;
-            out.put(delta.fill(&font, offset, &halves(coords)?, &mut scalars));
+            out.put(delta.fill(&at, &mut scalars));
             out.list(&scalars);
             out.byte(b' ');
-            delta.put(&font, offset, &scalars, out)
+            delta.put(&at.font, at.offset, &scalars, out)
         }
         _ => return None,
     }
@@ -64,42 +59,38 @@ pub(crate) fn answer(words: &[&[u8]], out: &mut Output) -> Option<()> {
 
 impl Delta {
     fn read(name: &[u8], what: &[&[u8]]) -> Option<Delta> {
-        match what {
-            [outer, inner] if name == b"item_delta".as_slice() => Some(Delta::Item {
+        Some(match (name, what) {
+            (b"item_delta", [outer, inner]) => Delta::Item {
                 outer: natural(outer)?,
                 inner: index(inner)?,
-            }),
-            [what] => match name {
-                b"advance_fixed" => Some(Delta::AdvanceFixed(index(what)?)),
-                b"sb_fixed" => Some(Delta::SbFixed(index(what)?)),
-                b"advance_delta" => Some(Delta::Advance(index(what)?)),
-                b"sb_delta" => Some(Delta::Sb(index(what)?)),
-                b"mvar_fixed" => Some(Delta::MvarFixed(bits(what)?)),
-                b"mvar_delta" => Some(Delta::Mvar(bits(what)?)),
-                _ => None,
             },
-            _ => None,
-        }
+            (b"advance_fixed", [glyph]) => Delta::AdvanceFixed(index(glyph)?),
+            (b"sb_fixed", [glyph]) => Delta::SbFixed(index(glyph)?),
+            (b"advance_delta", [glyph]) => Delta::Advance(index(glyph)?),
+            (b"sb_delta", [glyph]) => Delta::Sb(index(glyph)?),
+            (b"mvar_fixed", [tag]) => Delta::MvarFixed(bits(tag)?),
+            (b"mvar_delta", [tag]) => Delta::Mvar(bits(tag)?),
+            _ => return None,
+        })
     }
 
-    // The list of the store at an offset, of the table's store, or of the MVAR's own.
-    fn fill(
-        self,
-        font: &[u8],
-        offset: u32,
-        coords: &[i16],
-        scalars: &mut [i32],
-    ) -> Result<u16, Refusal> {
+    // Fills the list by the store at the offset, the table's store, or the MVAR's own.
+    fn fill(self, at: &Place, scalars: &mut [i32]) -> Result<u16, Refusal> {
+        let Place {
+            font,
+            offset,
+            coords,
+        } = at;
         match self {
-            Delta::Item { .. } => old::half(fill_scalars(font, offset, coords, scalars)),
-            Delta::MvarFixed(_) | Delta::Mvar(_) => {
-                let store = old::half(mvar::mvar_store(font, offset))?;
-                let mvar = font.get(offset as usize..).unwrap_or(b"");
-                old::half(fill_scalars(mvar, u32::from(store), coords, scalars))
-            }
-            _ => {
-                let store = old::word(store_of(font, offset))?;
+            Delta::Item { .. } => old::half(fill_scalars(font, *offset, coords, scalars)),
+            Delta::AdvanceFixed(_) | Delta::SbFixed(_) | Delta::Advance(_) | Delta::Sb(_) => {
+                let store = old::word(store_of(font, *offset))?;
                 old::half(fill_scalars(font, store, coords, scalars))
+            }
+            Delta::MvarFixed(_) | Delta::Mvar(_) => {
+                let store = old::half(mvar::mvar_store(font, *offset))?;
+                let mvar = font.get(*offset as usize..).unwrap_or(b"");
+                old::half(fill_scalars(mvar, u32::from(store), coords, scalars))
             }
         }
     }

@@ -1,13 +1,13 @@
 // Cases of normalising and of coordinate lists. A font and the avar's offset in it are a case's last two
 // words; without these it has no avar, which is an offset of 0.
 use crate::old;
-use crate::parse::{Bytes, bits, bytes, fixed, float, index, list, natural, room};
+use crate::parse::{Bytes, List, bits, bytes, fixed, float, index, list, natural, room};
 use crate::print::Output;
 use arrayvec::ArrayVec;
 use axes::avar::adjust_axis;
 use axes::axis::VarAxis;
 use axes::fvar::Fvar;
-use axes::variation;
+use axes::variation::{instance_coords, normalized_coords};
 use numbers::Fixed;
 
 #[derive(Drop)]
@@ -26,8 +26,8 @@ impl Avar {
 
     fn read(font: &[u8], offset: &[u8]) -> Option<Avar> {
         Some(Avar {
-            font: bytes(font)?,
             offset: natural(offset)?,
+            font: bytes(font)?,
         })
     }
 
@@ -47,8 +47,9 @@ const MARK: i16 = i16::MAX;
 pub(crate) fn answer(words: &[&[u8]], out: &mut Output) -> Option<()> {
     match words {
         [b"adjust_axis", axis, value, font, offset] => {
+            let (axis, value) = (index(axis)?, fixed(value)?);
             let avar = Avar::read(font, offset)?;
-            out.value(adjust_axis(&avar.font, avar.offset, index(axis)?, fixed(value)?))
+            out.value(adjust_axis(&avar.font, avar.offset, axis, value))
         }
         [b"normalized_coord", min, default, max, value] => {
             put_coord(
@@ -68,37 +69,23 @@ pub(crate) fn answer(words: &[&[u8]], out: &mut Output) -> Option<()> {
             font,
             offset,
         ] => {
-            let axis = axis(index(i)?, min, default, max)?;
-            put_coord(axis, fixed(value)?, &Avar::read(font, offset)?, out)
+            let (axis, value) = (axis(index(i)?, min, default, max)?, fixed(value)?);
+            put_coord(axis, value, &Avar::read(font, offset)?, out)
         }
         [b"normalized_coords", table, tags, values, size, avar @ ..] => {
-            let avar = Avar::read_any(avar)?;
-            let table = bytes(table)?;
-            let mut coords = room(size, MARK)?;
-            out.put(old::half(variation::normalized_coords(
-                Fvar::new(&table),
-                &table,
-                &avar.font,
-                avar.offset,
-                &list(tags, bits)?,
-                &list(values, float)?,
-                &mut coords,
-            )));
-            out.list(&coords)
+            let (tags, values) = (list(tags, bits)?, list(values, float)?);
+            put_settings(
+                table,
+                &tags,
+                &values,
+                room(size, MARK)?,
+                &Avar::read_any(avar)?,
+                out,
+            )?
         }
         [b"instance_coords", table, i, size, avar @ ..] => {
-            let avar = Avar::read_any(avar)?;
-            let table = bytes(table)?;
-            let mut coords = room(size, MARK)?;
-            out.put(old::half(variation::instance_coords(
-                Fvar::new(&table),
-                &table,
-                &avar.font,
-                avar.offset,
-                index(i)?,
-                &mut coords,
-            )));
-            out.list(&coords)
+            let i = index(i)?;
+            put_instance(table, i, room(size, MARK)?, &Avar::read_any(avar)?, out)?
         }
         _ => return None,
     }
@@ -107,6 +94,48 @@ pub(crate) fn answer(words: &[&[u8]], out: &mut Output) -> Option<()> {
 
 fn put_coord(axis: VarAxis, value: Fixed, avar: &Avar, out: &mut Output) {
     out.put(old::f2dot14(axis.normalized_coord(value, &avar.font, avar.offset)))
+}
+
+fn put_settings(
+    table: &[u8],
+    tags: &[u32],
+    values: &[f32],
+    mut coords: List<i16>,
+    avar: &Avar,
+    out: &mut Output,
+) -> Option<()> {
+    let table = bytes(table)?;
+    out.put(old::half(normalized_coords(
+        Fvar::new(&table),
+        &table,
+        &avar.font,
+        avar.offset,
+        tags,
+        values,
+        &mut coords,
+    )));
+    out.list(&coords);
+    Some(())
+}
+
+fn put_instance(
+    table: &[u8],
+    index: u16,
+    mut coords: List<i16>,
+    avar: &Avar,
+    out: &mut Output,
+) -> Option<()> {
+    let table = bytes(table)?;
+    out.put(old::half(instance_coords(
+        Fvar::new(&table),
+        &table,
+        &avar.font,
+        avar.offset,
+        index,
+        &mut coords,
+    )));
+    out.list(&coords);
+    Some(())
 }
 
 fn axis(index: u16, min: &[u8], default: &[u8], max: &[u8]) -> Option<VarAxis> {

@@ -11,21 +11,16 @@ pub(crate) fn answer(words: &[&[u8]], out: &mut Output) -> Option<()> {
     match words {
         [b"mvar_tags"] => put_tags(out),
         [b"mvar_new", font, offset] => {
-            out.put(old::header(mvar::mvar_header(&bytes(font)?, natural(offset)?)))
+            let offset = natural(offset)?;
+            out.put(old::header(mvar::mvar_header(&bytes(font)?, offset)))
         }
         [b"item_delta", font, store, outer, inner, coords] => {
+            let (outer, inner) = (natural(outer)?, index(inner)?);
             let at = Place::read(font, store, coords)?;
-            let outer = natural(outer)?;
-            out.put(old::fixed(item::item_delta(
-                &at.font,
-                at.offset,
-                outer,
-                index(inner)?,
-                &at.coords,
-            )))
+            out.put(old::fixed(item::item_delta(&at.font, at.offset, outer, inner, &at.coords)))
         }
         [name, font, offset, what, coords] => {
-            put_delta(name, &Place::read(font, offset, coords)?, what, out)?
+            return put_delta(name, &Place::read(font, offset, coords)?, what, out);
         }
         _ => return None,
     }

@@ -21,10 +21,11 @@ pub(crate) fn answer(words: &[&[u8]], out: &mut Output) -> Option<()> {
         [name, table, what] => return of_table(name, &bytes(table)?, what, out),
         // the largest float stands where none was written: no 16.16 number has it
         [b"instance_floats", table, i, size] => {
-            let table = bytes(table)?;
+            let i = index(i)?;
             let mut floats = room(size, f32::MAX)?;
+            let table = bytes(table)?;
             let fvar = Fvar::new(&table);
-            out.put(old::half(fvar.instance_floats(&table, index(i)?, &mut floats)));
+            out.put(old::half(fvar.instance_floats(&table, i, &mut floats)));
             out.list(&floats)
         }
         _ => return None,

@@ -17,9 +17,9 @@ pub(crate) struct Glyph {
 impl Glyph {
     pub(crate) fn read(font: &[u8], id: &[u8], coords: &[u8]) -> Option<Glyph> {
         Some(Glyph {
-            font: bytes(font)?,
             id: index(id)?,
             coords: halves(coords)?,
+            font: bytes(font)?,
         })
     }
 
@@ -52,46 +52,73 @@ pub(crate) fn answer(words: &[&[u8]], out: &mut Output) -> Option<()> {
                 b"advance_width" | b"lsb" => level(0, natural(tables)?),
                 _ => upright(tables, 0)?,
             };
+            let scale = float(scale)?;
             let glyph = Glyph::read(font, id, coords)?;
-            out.value(measure(name, glyph.scaled(m, float(scale)?), &glyph, unvaried)?)
+            return put_measure(name, glyph.scaled(m, scale), &glyph, unvaried, out);
         }
-        [
-            b"vertical_origin",
-            font,
-            tables,
-            id,
-            coords,
-            bearing,
-            y_max,
-            origin,
-            units_per_em,
-            scale,
-        ] => {
-            let glyph = Glyph::read(font, id, coords)?;
-            let m = glyph.scaled(upright(tables, index(units_per_em)?)?, float(scale)?);
-            out.value(m.vertical_origin(
-                &glyph.font,
-                glyph.id,
-                &glyph.coords,
-                half(bearing)?,
-                old::ordinate(ordinate(y_max)?),
-                old::ordinate(ordinate(origin)?),
-            ))
+        [b"vertical_origin", font, tables, id, coords, numbers @ ..] => {
+            let origin = Origin::read(numbers)?;
+            let m = upright(tables, origin.units_per_em)?;
+            origin.put(m, &Glyph::read(font, id, coords)?, out)
         }
         _ => return None,
     }
     Some(())
 }
 
-fn measure(name: &[u8], m: GlyphMetrics, glyph: &Glyph, unvaried: &[u8]) -> Option<f32> {
-    let font = glyph.font.as_slice();
-    let coords = glyph.coords.as_slice();
-    match name {
-        b"advance_width" => Some(m.advance_width(font, glyph.id, coords, index(unvaried)?)),
-        b"lsb" => Some(m.lsb(font, glyph.id, coords, half(unvaried)?)),
-        b"advance_height" => Some(m.advance_height(font, glyph.id, coords, index(unvaried)?)),
-        b"tsb" => Some(m.tsb(font, glyph.id, coords, half(unvaried)?)),
-        _ => None,
+fn put_measure(
+    name: &[u8],
+    m: GlyphMetrics,
+    glyph: &Glyph,
+    unvaried: &[u8],
+    out: &mut Output,
+) -> Option<()> {
+    let Glyph { font, id, coords } = glyph;
+    out.value(match name {
+        b"advance_width" => m.advance_width(font, *id, coords, index(unvaried)?),
+        b"lsb" => m.lsb(font, *id, coords, half(unvaried)?),
+        b"advance_height" => m.advance_height(font, *id, coords, index(unvaried)?),
+        b"tsb" => m.tsb(font, *id, coords, half(unvaried)?),
+        _ => return None,
+    });
+    Some(())
+}
+
+// What a case of a vertical origin says behind the coordinates.
+#[derive(Clone, Copy)]
+struct Origin {
+    bearing: i16,
+    y_max: Option<i16>,
+    vorg: Option<i16>,
+    units_per_em: u16,
+    scale: f32,
+}
+
+impl Origin {
+    fn read(words: &[&[u8]]) -> Option<Origin> {
+        let [bearing, y_max, vorg, units_per_em, scale] = words else {
+            return None;
+        };
+        Some(Origin {
+            bearing: half(bearing)?,
+            y_max: ordinate(y_max)?,
+            vorg: ordinate(vorg)?,
+            units_per_em: index(units_per_em)?,
+            scale: float(scale)?,
+        })
+    }
+
+    fn put(self, m: GlyphMetrics, glyph: &Glyph, out: &mut Output) {
+        out.value(
+            glyph.scaled(m, self.scale).vertical_origin(
+                &glyph.font,
+                glyph.id,
+                &glyph.coords,
+                self.bearing,
+                old::ordinate(self.y_max),
+                old::ordinate(self.vorg),
+            ),
+        )
     }
 }
 

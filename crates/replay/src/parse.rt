@@ -85,9 +85,9 @@ pub(crate) struct Place {
 impl Place {
     pub(crate) fn read(font: &[u8], offset: &[u8], coords: &[u8]) -> Option<Place> {
         Some(Place {
-            font: bytes(font)?,
             offset: natural(offset)?,
             coords: halves(coords)?,
+            font: bytes(font)?,
         })
     }
 }

@@ -22,31 +22,30 @@ enum Delta {
 pub(crate) fn answer(words: &[&[u8]], out: &mut Output) -> Option<()> {
     match words {
         [b"store_offset", font, xvar] => {
-            out.put(old::word(store_of(&bytes(font)?, natural(xvar)?)))
+            let xvar = natural(xvar)?;
+            out.put(old::word(store_of(&bytes(font)?, xvar)))
         }
         [b"mvar_store_offset", font, offset] => {
-            out.put(old::half(mvar::mvar_store(&bytes(font)?, natural(offset)?)))
+            let offset = natural(offset)?;
+            out.put(old::half(mvar::mvar_store(&bytes(font)?, offset)))
         }
         [b"fill_scalars", font, store, coords, scalars] => {
-            let at = Place::read(font, store, coords)?;
             let mut scalars = list(scalars, scalar)?;
+            let at = Place::read(font, store, coords)?;
             out.put(old::half(fill_scalars(&at.font, at.offset, &at.coords, &mut scalars)));
             out.list(&scalars)
         }
         [name, font, offset, what @ .., scalars] if name.ends_with(b"_with") => {
             let delta = Delta::read(name.strip_suffix(b"_with")?, what)?;
-            delta.put(
-                &bytes(font)?,
-                natural(offset)?,
-                &list(scalars, scalar)?,
-                out,
-            )
+            let offset = natural(offset)?;
+            let scalars = list(scalars, scalar)?;
+            delta.put(&bytes(font)?, offset, &scalars, out)
         }
         // what filling answers, the list, and the delta that is read with what was left
         [name, font, offset, what @ .., coords, scalars] => {
             let delta = Delta::read(name.strip_suffix(b"_filled")?, what)?;
-            let at = Place::read(font, offset, coords)?;
             let mut scalars = list(scalars, scalar)?;
+            let at = Place::read(font, offset, coords)?;
             out.put(delta.fill(&at, &mut scalars));
             out.list(&scalars);
             out.byte(b' ');

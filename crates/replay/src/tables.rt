@@ -5,31 +5,26 @@ use crate::parse::{bits, bytes, float, index, list, natural};
 use crate::print::Output;
 use metrics::glyph::GlyphMetrics;
 use metrics::vertical::Vertical;
-use readers::Refusal;
-use widths::{adjusted, glyph, vorg, xmtx};
+use widths::adjusted::{adjusted_advance, adjusted_sb};
+use widths::{glyph, vorg, xmtx};
 
 pub(crate) fn answer(words: &[&[u8]], out: &mut Output) -> Option<()> {
     match words {
-        [b"xmtx_advance", font, xmtx, long_metric_count, id] => out.put(old::half(xmtx::advance(
-            &bytes(font)?,
-            natural(xmtx)?,
-            index(long_metric_count)?,
-            index(id)?,
-        ))),
-        [b"xmtx_sb", font, xmtx, long_metric_count, id] => out.put(old::signed(xmtx::sb(
-            &bytes(font)?,
-            natural(xmtx)?,
-            index(long_metric_count)?,
-            index(id)?,
-        ))),
-        [b"vorg_origin", font, vorg, id] => out.put(old::signed(vorg::origin(
-            &bytes(font)?,
-            natural(vorg)?,
-            index(id)?,
-        ))),
+        [b"xmtx_advance", font, xmtx, long_metric_count, id] => {
+            let (xmtx, count, id) = (natural(xmtx)?, index(long_metric_count)?, index(id)?);
+            out.put(old::half(xmtx::advance(&bytes(font)?, xmtx, count, id)))
+        }
+        [b"xmtx_sb", font, xmtx, long_metric_count, id] => {
+            let (xmtx, count, id) = (natural(xmtx)?, index(long_metric_count)?, index(id)?);
+            out.put(old::signed(xmtx::sb(&bytes(font)?, xmtx, count, id)))
+        }
+        [b"vorg_origin", font, vorg, id] => {
+            let (vorg, id) = (natural(vorg)?, index(id)?);
+            out.put(old::signed(vorg::origin(&bytes(font)?, vorg, id)))
+        }
         [name, font, tables, id, coords, scale] => {
-            let of = Glyph::read(font, id, coords)?;
-            out.put(measure(name, &of, tables, float(scale)?)?)
+            let scale = float(scale)?;
+            return put_measure(name, &Glyph::read(font, id, coords)?, tables, scale, out);
         }
         [
             b"read_vertical_origin",
@@ -41,77 +36,68 @@ pub(crate) fn answer(words: &[&[u8]], out: &mut Output) -> Option<()> {
             units_per_em,
             scale,
         ] => {
+            let unvaried = with_vmtx(tables, index(units_per_em)?)?;
+            let (y_max, scale) = (old::ordinate(ordinate(y_max)?), float(scale)?);
             let of = Glyph::read(font, id, coords)?;
-            let m = of.scaled(with_vmtx(tables, index(units_per_em)?)?, float(scale)?);
-            let y_max = old::ordinate(ordinate(y_max)?);
+            let m = of.scaled(unvaried, scale);
             out.put(old::float(glyph::vertical_origin(m, &of.font, of.id, &of.coords, y_max)))
         }
         [name, font, xmtx, long_metric_count, xvar, id, coords, scale] => {
-            let of = Glyph::read(font, id, coords)?;
             let table = Table {
                 xmtx: natural(xmtx)?,
                 long_metric_count: index(long_metric_count)?,
                 xvar: natural(xvar)?,
+                scale: float(scale)?,
             };
-            out.put(adjusted(name, &of, table, float(scale)?)?)
+            return put_adjusted(name, table, &Glyph::read(font, id, coords)?, out);
         }
         _ => return None,
     }
     Some(())
 }
 
-fn measure(name: &[u8], of: &Glyph, tables: &[u8], scale: f32) -> Option<Result<f32, Refusal>> {
+fn put_measure(name: &[u8], of: &Glyph, tables: &[u8], scale: f32, out: &mut Output) -> Option<()> {
     let unvaried = match name {
         b"read_advance_width" | b"read_lsb" => with_hmtx(tables)?,
         _ => with_vmtx(tables, 0)?,
     };
     let m = of.scaled(unvaried, scale);
-    let width = match name {
-        b"read_advance_width" => glyph::advance_width(m, &of.font, of.id, &of.coords),
-        b"read_lsb" => glyph::lsb(m, &of.font, of.id, &of.coords),
-        b"read_advance_height" => glyph::advance_height(m, &of.font, of.id, &of.coords),
-        b"read_tsb" => glyph::tsb(m, &of.font, of.id, &of.coords),
+    let Glyph { font, id, coords } = of;
+    out.put(old::float(match name {
+        b"read_advance_width" => glyph::advance_width(m, font, *id, coords),
+        b"read_lsb" => glyph::lsb(m, font, *id, coords),
+        b"read_advance_height" => glyph::advance_height(m, font, *id, coords),
+        b"read_tsb" => glyph::tsb(m, font, *id, coords),
         _ => return None,
-    };
-    Some(old::float(width))
+    }));
+    Some(())
 }
 
-// hmtx with HVAR, or vmtx with VVAR.
+// hmtx with HVAR, or vmtx with VVAR, and a scale.
 #[derive(Clone, Copy)]
 struct Table {
     xmtx: u32,
     long_metric_count: u16,
     xvar: u32,
+    scale: f32,
 }
 
-fn adjusted(name: &[u8], of: &Glyph, table: Table, scale: f32) -> Option<Result<f32, Refusal>> {
+fn put_adjusted(name: &[u8], table: Table, of: &Glyph, out: &mut Output) -> Option<()> {
     let Table {
         xmtx,
         long_metric_count,
         xvar,
+        scale,
     } = table;
-    let width = match name {
-        b"adjusted_advance" => adjusted::adjusted_advance(
-            &of.font,
-            xmtx,
-            long_metric_count,
-            xvar,
-            of.id,
-            &of.coords,
-            scale,
-        ),
-        b"adjusted_sb" => adjusted::adjusted_sb(
-            &of.font,
-            xmtx,
-            long_metric_count,
-            xvar,
-            of.id,
-            &of.coords,
-            scale,
-        ),
+    let Glyph { font, id, coords } = of;
+    out.put(old::float(match name {
+        b"adjusted_advance" => {
+            adjusted_advance(font, xmtx, long_metric_count, xvar, *id, coords, scale)
+        }
+        b"adjusted_sb" => adjusted_sb(font, xmtx, long_metric_count, xvar, *id, coords, scale),
         _ => return None,
-    };
-    Some(old::float(width))
+    }));
+    Some(())
 }
 
 // hmtx, the count of long records, HVAR.

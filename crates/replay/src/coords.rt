@@ -1,14 +1,13 @@
 // Cases of normalising and of coordinate lists. A font and the avar's offset in it are a case's last two
 // words; without these it has no avar, which is an offset of 0.
 use crate::old;
-use crate::parse::{Bytes, List, bits, bytes, fixed, float, index, list, natural, room};
+use crate::parse::{Bytes, bits, bytes, fixed, float, index, list, natural, room};
 use crate::print::Output;
 use arrayvec::ArrayVec;
 use axes::avar::adjust_axis;
 use axes::axis::VarAxis;
 use axes::fvar::Fvar;
 use axes::variation::{instance_coords, normalized_coords};
-use numbers::Fixed;
 
 #[derive(Drop)]
 struct Avar {
@@ -46,100 +45,34 @@ const MARK: i16 = i16::MAX;
 
 pub(crate) fn answer(words: &[&[u8]], out: &mut Output) -> Option<()> {
     match words {
-        [b"adjust_axis", axis, value, font, offset] => {
-            let (axis, value) = (index(axis)?, fixed(value)?);
-            let avar = Avar::read(font, offset)?;
-            out.value(adjust_axis(&avar.font, avar.offset, axis, value))
-        }
-        [b"normalized_coord", min, default, max, value] => {
-            put_coord(
-                axis(0, min, default, max)?,
-                fixed(value)?,
-                &Avar::none(),
-                out,
-            )
-        }
-        [
-            b"normalized_coord",
-            min,
-            default,
-            max,
-            value,
-            i,
-            font,
-            offset,
-        ] => {
-            let (axis, value) = (axis(index(i)?, min, default, max)?, fixed(value)?);
-            put_coord(axis, value, &Avar::read(font, offset)?, out)
-        }
-        [b"normalized_coords", table, tags, values, size, avar @ ..] => {
-            let (tags, values) = (list(tags, bits)?, list(values, float)?);
-            put_settings(
-                table,
-                &tags,
-                &values,
-                room(size, MARK)?,
-                &Avar::read_any(avar)?,
-                out,
-            )?
-        }
-        [b"instance_coords", table, i, size, avar @ ..] => {
-            let i = index(i)?;
-            put_instance(table, i, room(size, MARK)?, &Avar::read_any(avar)?, out)?
-        }
-        _ => return None,
+        [b"adjust_axis", words @ ..] => put_adjusted(words, out),
+        [b"normalized_coord", words @ ..] => put_coord(words, out),
+        [b"normalized_coords", words @ ..] => put_settings(words, out),
+        [b"instance_coords", words @ ..] => put_instance(words, out),
+        _ => None,
     }
+}
+
+fn put_adjusted(words: &[&[u8]], out: &mut Output) -> Option<()> {
+    let [axis, value, font, offset] = words else {
+        return None;
+    };
+    let (axis, value) = (index(axis)?, fixed(value)?);
+    let avar = Avar::read(font, offset)?;
+    out.value(adjust_axis(&avar.font, avar.offset, axis, value));
     Some(())
 }
 
-fn put_coord(axis: VarAxis, value: Fixed, avar: &Avar, out: &mut Output) {
-    out.put(old::f2dot14(axis.normalized_coord(value, &avar.font, avar.offset)))
-}
-
-fn put_settings(
-    table: &[u8],
-    tags: &[u32],
-    values: &[f32],
-    mut coords: List<i16>,
-    avar: &Avar,
-    out: &mut Output,
-) -> Option<()> {
-    let table = bytes(table)?;
-    out.put(old::half(normalized_coords(
-        Fvar::new(&table),
-        &table,
-        &avar.font,
-        avar.offset,
-        tags,
-        values,
-        &mut coords,
-    )));
-    out.list(&coords);
-    Some(())
-}
-
-fn put_instance(
-    table: &[u8],
-    index: u16,
-    mut coords: List<i16>,
-    avar: &Avar,
-    out: &mut Output,
-) -> Option<()> {
-    let table = bytes(table)?;
-    out.put(old::half(instance_coords(
-        Fvar::new(&table),
-        &table,
-        &avar.font,
-        avar.offset,
-        index,
-        &mut coords,
-    )));
-    out.list(&coords);
-    Some(())
-}
-
-fn axis(index: u16, min: &[u8], default: &[u8], max: &[u8]) -> Option<VarAxis> {
-    Some(VarAxis {
+fn put_coord(words: &[&[u8]], out: &mut Output) -> Option<()> {
+    let [min, default, max, value, others @ ..] = words else {
+        return None;
+    };
+    let (index, avar) = match others {
+        [] => (0, Avar::none()),
+        [axis, font, offset] => (index(axis)?, Avar::read(font, offset)?),
+        _ => return None,
+    };
+    let axis = VarAxis {
         index,
         tag: 0,
         name_id: 0,
@@ -147,5 +80,47 @@ fn axis(index: u16, min: &[u8], default: &[u8], max: &[u8]) -> Option<VarAxis> {
         min: fixed(min)?,
         default: fixed(default)?,
         max: fixed(max)?,
-    })
+    };
+    let coord = axis.normalized_coord(fixed(value)?, &avar.font, avar.offset);
+    out.put(old::f2dot14(coord));
+    Some(())
+}
+
+fn put_settings(words: &[&[u8]], out: &mut Output) -> Option<()> {
+    let [table, tags, values, size, avar @ ..] = words else {
+        return None;
+    };
+    let mut coords = room(size, MARK)?;
+    let (tags, values) = (list(tags, bits)?, list(values, float)?);
+    let (table, avar) = (bytes(table)?, Avar::read_any(avar)?);
+    out.put(old::half(normalized_coords(
+        Fvar::new(&table),
+        &table,
+        &avar.font,
+        avar.offset,
+        &tags,
+        &values,
+        &mut coords,
+    )));
+    out.list(&coords);
+    Some(())
+}
+
+fn put_instance(words: &[&[u8]], out: &mut Output) -> Option<()> {
+    let [table, i, size, avar @ ..] = words else {
+        return None;
+    };
+    let i = index(i)?;
+    let mut coords = room(size, MARK)?;
+    let (table, avar) = (bytes(table)?, Avar::read_any(avar)?);
+    out.put(old::half(instance_coords(
+        Fvar::new(&table),
+        &table,
+        &avar.font,
+        avar.offset,
+        i,
+        &mut coords,
+    )));
+    out.list(&coords);
+    Some(())
 }

@@ -41,17 +41,9 @@ pub(crate) fn answer(words: &[&[u8]], out: &mut Output) -> Option<()> {
             };
             out.value(m.has_variations())
         }
-        // the scale before is to be replaced
-        [b"glyph_scale", units_per_em, ppem, advance] => {
-            let doubled = level(index(units_per_em)?, 0).linear_scale(2.0);
-            let m = doubled.scale(float(ppem)?);
-            out.value(m.advance_width(b"", 0, &[], index(advance)?))
-        }
+        [b"glyph_scale", words @ ..] => return put_scaled(words, out),
         [name, font, tables, id, coords, unvaried, scale] => {
-            let m = match *name {
-                b"advance_width" | b"lsb" => level(0, natural(tables)?),
-                _ => upright(tables, 0)?,
-            };
+            let m = without_scale(name, tables)?;
             let scale = float(scale)?;
             let glyph = Glyph::read(font, id, coords)?;
             return put_measure(name, glyph.scaled(m, scale), &glyph, unvaried, out);
@@ -64,6 +56,24 @@ pub(crate) fn answer(words: &[&[u8]], out: &mut Output) -> Option<()> {
         _ => return None,
     }
     Some(())
+}
+
+// The scale before is to be replaced.
+fn put_scaled(words: &[&[u8]], out: &mut Output) -> Option<()> {
+    let [units_per_em, ppem, advance] = words else {
+        return None;
+    };
+    let doubled = level(index(units_per_em)?, 0).linear_scale(2.0);
+    let m = doubled.scale(float(ppem)?);
+    out.value(m.advance_width(b"", 0, &[], index(advance)?));
+    Some(())
+}
+
+fn without_scale(name: &[u8], tables: &[u8]) -> Option<GlyphMetrics> {
+    match name {
+        b"advance_width" | b"lsb" => Some(level(0, natural(tables)?)),
+        _ => upright(tables, 0),
+    }
 }
 
 fn put_measure(

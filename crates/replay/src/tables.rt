@@ -10,49 +10,58 @@ use widths::{glyph, vorg, xmtx};
 
 pub(crate) fn answer(words: &[&[u8]], out: &mut Output) -> Option<()> {
     match words {
-        [b"xmtx_advance", font, xmtx, long_metric_count, id] => {
+        [b"vorg_origin", words @ ..] => put_vorg(words, out),
+        [name, font, xmtx, long_metric_count, id] => {
             let (xmtx, count, id) = (natural(xmtx)?, index(long_metric_count)?, index(id)?);
-            out.put(old::half(xmtx::advance(&bytes(font)?, xmtx, count, id)))
-        }
-        [b"xmtx_sb", font, xmtx, long_metric_count, id] => {
-            let (xmtx, count, id) = (natural(xmtx)?, index(long_metric_count)?, index(id)?);
-            out.put(old::signed(xmtx::sb(&bytes(font)?, xmtx, count, id)))
-        }
-        [b"vorg_origin", font, vorg, id] => {
-            let (vorg, id) = (natural(vorg)?, index(id)?);
-            out.put(old::signed(vorg::origin(&bytes(font)?, vorg, id)))
+            put_unvaried(name, &bytes(font)?, xmtx, count, id, out)
         }
         [name, font, tables, id, coords, scale] => {
             let scale = float(scale)?;
-            return put_measure(name, &Glyph::read(font, id, coords)?, tables, scale, out);
+            put_measure(name, &Glyph::read(font, id, coords)?, tables, scale, out)
         }
-        [
-            b"read_vertical_origin",
-            font,
-            tables,
-            id,
-            coords,
-            y_max,
-            units_per_em,
-            scale,
-        ] => {
-            let unvaried = with_vmtx(tables, index(units_per_em)?)?;
-            let (y_max, scale) = (old::ordinate(ordinate(y_max)?), float(scale)?);
-            let of = Glyph::read(font, id, coords)?;
-            let m = of.scaled(unvaried, scale);
-            out.put(old::float(glyph::vertical_origin(m, &of.font, of.id, &of.coords, y_max)))
-        }
+        [b"read_vertical_origin", words @ ..] => put_origin(words, out),
         [name, font, xmtx, long_metric_count, xvar, id, coords, scale] => {
-            let table = Table {
-                xmtx: natural(xmtx)?,
-                long_metric_count: index(long_metric_count)?,
-                xvar: natural(xvar)?,
-                scale: float(scale)?,
-            };
-            return put_adjusted(name, table, &Glyph::read(font, id, coords)?, out);
+            let table = Table::read(xmtx, long_metric_count, xvar, scale)?;
+            put_adjusted(name, table, &Glyph::read(font, id, coords)?, out)
         }
+        _ => None,
+    }
+}
+
+fn put_vorg(words: &[&[u8]], out: &mut Output) -> Option<()> {
+    let [font, vorg, id] = words else {
+        return None;
+    };
+    let (vorg, id) = (natural(vorg)?, index(id)?);
+    out.put(old::signed(vorg::origin(&bytes(font)?, vorg, id)));
+    Some(())
+}
+
+fn put_unvaried(
+    name: &[u8],
+    font: &[u8],
+    xmtx: u32,
+    long_metric_count: u16,
+    id: u16,
+    out: &mut Output,
+) -> Option<()> {
+    match name {
+        b"xmtx_advance" => out.put(old::half(xmtx::advance(font, xmtx, long_metric_count, id))),
+        b"xmtx_sb" => out.put(old::signed(xmtx::sb(font, xmtx, long_metric_count, id))),
         _ => return None,
     }
+    Some(())
+}
+
+fn put_origin(words: &[&[u8]], out: &mut Output) -> Option<()> {
+    let [font, tables, id, coords, y_max, units_per_em, scale] = words else {
+        return None;
+    };
+    let unvaried = with_vmtx(tables, index(units_per_em)?)?;
+    let (y_max, scale) = (old::ordinate(ordinate(y_max)?), float(scale)?);
+    let of = Glyph::read(font, id, coords)?;
+    let m = of.scaled(unvaried, scale);
+    out.put(old::float(glyph::vertical_origin(m, &of.font, of.id, &of.coords, y_max)));
     Some(())
 }
 
@@ -80,6 +89,17 @@ struct Table {
     long_metric_count: u16,
     xvar: u32,
     scale: f32,
+}
+
+impl Table {
+    fn read(xmtx: &[u8], long_metric_count: &[u8], xvar: &[u8], scale: &[u8]) -> Option<Table> {
+        Some(Table {
+            xmtx: natural(xmtx)?,
+            long_metric_count: index(long_metric_count)?,
+            xvar: natural(xvar)?,
+            scale: float(scale)?,
+        })
+    }
 }
 
 fn put_adjusted(name: &[u8], table: Table, of: &Glyph, out: &mut Output) -> Option<()> {

@@ -1,5 +1,5 @@
 -- The words of a line: one blank stands between two. A line is a list of ASCII codes.
-use Rattle.std.specs.Prelude.{ℕ, zero, suc, ◌+◌, Bool, true, false, cond, ◌&&◌, List, [], ◌∷◌, ◌==◌}
+use Rattle.std.specs.Prelude.{ℕ, zero, suc, ◌+◌, cond, List, [], ◌∷◌, ◌==◌}
 
 -- What stands before the first blank; what stands behind the first k blanks.
 unfoldable pub before_blank : List ℕ → List ℕ
@@ -19,19 +19,3 @@ word_of k line = before_blank (after_blanks k line)
 unfoldable pub word_count : List ℕ → ℕ
 word_count [] = 1
 word_count (c ∷ cs) = cond (c == 32) (word_count cs + 1) (word_count cs)
-
--- Whether two texts are the same.
-unfoldable pub same_text : List ℕ → List ℕ → Bool
-same_text [] [] = true
-same_text [] (y ∷ ys) = false
-same_text (x ∷ xs) [] = false
-same_text (x ∷ xs) (y ∷ ys) = x == y && same_text xs ys
-
--- The place of a text among the n words of a list from word k on; k + n where it is none of them.
-unfoldable pub place_from : ℕ → ℕ → List ℕ → List ℕ → ℕ
-place_from zero k text list = k
-place_from (suc n) k text list = cond (same_text text (word_of k list)) k (place_from n (suc k) text list)
-
--- Which word of a list a text is, counted from 0; where it is none, how many there are.
-unfoldable pub place_among : List ℕ → List ℕ → ℕ
-place_among text list = place_from (word_count list) 0 text list

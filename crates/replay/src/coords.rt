@@ -1,136 +1,126 @@
-// Cases of normalising and of coordinate lists, with an avar or without, which is an offset of 0.
-use crate::parse::{Parsed, Size};
+// Cases of normalising and of coordinate lists. A font and the avar's offset in it are a case's last two
+// words; without these it has no avar, which is an offset of 0.
+use crate::old;
+use crate::parse::{Bytes, bits, bytes, fixed, float, index, list, natural, room};
 use crate::print::Output;
-use crate::words::word;
-use crate::{parse, print};
+use arrayvec::ArrayVec;
+use axes::avar::adjust_axis;
 use axes::axis::VarAxis;
 use axes::fvar::Fvar;
-use axes::variation;
-use numbers::{F2Dot14, Fixed};
-use readers::F2Dot14Answer;
+use axes::variation::{instance_coords, normalized_coords};
 
-// min, default, max and a value; with an avar the axis's index
-pub(crate) fn put_coord(line: &[u8], index: u16, font: &[u8], avar: u32, out: &mut Output) {
-    let Parsed::Value(min) = parse::integer(word(line, 1)) else {
-        return print::put(out, b'?');
+#[derive(Drop)]
+struct Avar {
+    font: Bytes,
+    offset: u32,
+}
+
+impl Avar {
+    fn none() -> Avar {
+        Avar {
+            font: ArrayVec::new(),
+            offset: 0,
+        }
+    }
+
+    fn read(font: &[u8], offset: &[u8]) -> Option<Avar> {
+        Some(Avar {
+            offset: natural(offset)?,
+            font: bytes(font)?,
+        })
+    }
+
+    // The last words of a case that may be without.
+    fn read_any(words: &[&[u8]]) -> Option<Avar> {
+        match words {
+            [] => Some(Avar::none()),
+            [font, offset] => Avar::read(font, offset),
+            _ => None,
+        }
+    }
+}
+
+// Stands where no coordinate was written: none is the largest 2.14 number but by an avar.
+const MARK: i16 = i16::MAX;
+
+pub(crate) fn answer(words: &[&[u8]], out: &mut Output) -> Option<()> {
+    match words {
+        [b"adjust_axis", words @ ..] => put_adjusted(words, out),
+        [b"normalized_coord", words @ ..] => put_coord(words, out),
+        [b"normalized_coords", words @ ..] => put_settings(words, out),
+        [b"instance_coords", words @ ..] => put_instance(words, out),
+        _ => None,
+    }
+}
+
+fn put_adjusted(words: &[&[u8]], out: &mut Output) -> Option<()> {
+    let [axis, value, font, offset] = words else {
+        return None;
     };
-    let Parsed::Value(default) = parse::integer(word(line, 2)) else {
-        return print::put(out, b'?');
+    let (axis, value) = (index(axis)?, fixed(value)?);
+    let avar = Avar::read(font, offset)?;
+    out.value(adjust_axis(&avar.font, avar.offset, axis, value));
+    Some(())
+}
+
+fn put_coord(words: &[&[u8]], out: &mut Output) -> Option<()> {
+    let [min, default, max, value, others @ ..] = words else {
+        return None;
     };
-    let Parsed::Value(max) = parse::integer(word(line, 3)) else {
-        return print::put(out, b'?');
-    };
-    let Parsed::Value(value) = parse::integer(word(line, 4)) else {
-        return print::put(out, b'?');
+    let (index, avar) = match others {
+        [] => (0, Avar::none()),
+        [axis, font, offset] => (index(axis)?, Avar::read(font, offset)?),
+        _ => return None,
     };
     let axis = VarAxis {
         index,
         tag: 0,
         name_id: 0,
         flags: 0,
-        min: Fixed::from_bits(min),
-        default: Fixed::from_bits(default),
-        max: Fixed::from_bits(max),
+        min: fixed(min)?,
+        default: fixed(default)?,
+        max: fixed(max)?,
     };
-    put_answer(
-        axis.normalized_coord(Fixed::from_bits(value), font, avar),
-        out,
-    )
+    let coord = axis.normalized_coord(fixed(value)?, &avar.font, avar.offset);
+    out.put(old::f2dot14(coord));
+    Some(())
 }
 
-fn put_answer(answer: F2Dot14Answer, out: &mut Output) {
-    match answer {
-        F2Dot14Answer::Value(x) => {
-            print::put_text(out, b"value ");
-            print::put_half(out, x)
-        }
-        F2Dot14Answer::Refused(r) => print::put_refused(out, readers::number(r)),
-    }
-}
-
-// tags, values and the list's room, behind the table
-pub(crate) fn put_settings(table: &[u8], line: &[u8], font: &[u8], avar: u32, out: &mut Output) {
-    let mut tags = parse::empty_bits();
-    let Size::Value(tag_count) = parse::list(word(line, 2), &mut tags) else {
-        return print::put(out, b'?');
+fn put_settings(words: &[&[u8]], out: &mut Output) -> Option<()> {
+    let [table, tags, values, size, avar @ ..] = words else {
+        return None;
     };
-    let mut bits = parse::empty_bits();
-    let Size::Value(value_count) = parse::list(word(line, 3), &mut bits) else {
-        return print::put(out, b'?');
+    let mut coords = room(size, MARK)?;
+    let (tags, values) = (list(tags, bits)?, list(values, float)?);
+    let (table, avar) = (bytes(table)?, Avar::read_any(avar)?);
+    out.put(old::half(normalized_coords(
+        Fvar::new(&table),
+        &table,
+        &avar.font,
+        avar.offset,
+        &tags,
+        &values,
+        &mut coords,
+    )));
+    out.list(&coords);
+    Some(())
+}
+
+fn put_instance(words: &[&[u8]], out: &mut Output) -> Option<()> {
+    let [table, i, size, avar @ ..] = words else {
+        return None;
     };
-    let Size::Value(room) = parse::room(word(line, 4)) else {
-        return print::put(out, b'?');
-    };
-    let mut values = parse::empty_floats(parse::float(0));
-    parse::floats(&bits, value_count, &mut values);
-    put_coords(
-        table,
-        font,
-        avar,
-        parse::first(&tags, tag_count),
-        parse::first_floats(&values, value_count),
-        room,
-        out,
-    )
-}
-
-// The largest 2.14 number stands where none was written: no coordinate has it but by an avar.
-fn put_coords(
-    table: &[u8],
-    font: &[u8],
-    avar: u32,
-    tags: &[u32],
-    values: &[f32],
-    room: usize,
-    out: &mut Output,
-) {
-    let mut list = parse::empty_halves(32767);
-    let n = parse::at_most_256(room);
-    let answer = variation::normalized_coords(
-        Fvar::new(table),
-        table,
-        font,
-        avar,
-        tags,
-        values,
-        &mut list[0..n],
-    );
-    print::put_count(out, answer);
-    put_list(parse::first_halves(&list, n), out)
-}
-
-pub(crate) fn put_instance(
-    table: &[u8],
-    font: &[u8],
-    avar: u32,
-    index: u16,
-    room: usize,
-    out: &mut Output,
-) {
-    let mut list = parse::empty_halves(32767);
-    let n = parse::at_most_256(room);
-    let answer = variation::instance_coords(
-        Fvar::new(table),
-        table,
-        font,
-        avar,
-        index,
-        &mut list[0..n],
-    );
-    print::put_count(out, answer);
-    put_list(parse::first_halves(&list, n), out)
-}
-
-// A blank, and a list's elements.
-fn put_list(list: &[i16], out: &mut Output) {
-    print::put(out, b' ');
-    if list.len() == 0 {
-        return print::put(out, b'-');
-    }
-    let mut i = 0;
-    while i < list.len() {
-        print::put_comma(out, i);
-        print::put_half(out, F2Dot14(list[i]));
-        i += 1;
-    }
+    let i = index(i)?;
+    let mut coords = room(size, MARK)?;
+    let (table, avar) = (bytes(table)?, Avar::read_any(avar)?);
+    out.put(old::half(instance_coords(
+        Fvar::new(&table),
+        &table,
+        &avar.font,
+        avar.offset,
+        i,
+        &mut coords,
+    )));
+    out.list(&coords);
+    Some(())
 }

@@ -2,150 +2,85 @@
 // standard output for each. oracle/README.md has the format.
 #![tactic(auto)]
 
-mod avar;
 mod coords;
 mod deltas;
 mod fixed;
 mod fvar;
 mod glyphs;
 mod measures;
+mod old;
 mod parse;
 mod print;
 mod scalars;
 mod tables;
 mod words;
 
+use arrayvec::ArrayVec;
 use print::Output;
-use std::io;
-use std::io::{Read, Stdin};
+use std::io::Read;
+use std::{array, io};
+use words::{count, word};
 
-// Has room for what is read at once, for a line and its end, and for the output that waits.
-pub(crate) type Buffer = [u8; 65536];
+// What has come of a line whose end has not come yet. Behind 65,536 bytes nothing more is kept.
+type Line = ArrayVec<u8, 65536>;
 
-// How many bytes of a line have come, and whether there may be more input.
-#[derive(Clone, Copy)]
-struct State {
-    length: usize,
-    more: bool,
-}
-
-// Answers the line. Each module that answers cases is asked here, until one knows the case.
+// Answers the line. What is no case is answered by a question mark.
 fn answer(line: &[u8], out: &mut Output) {
-    match fixed::of_line(line) {
-        fixed::Answer::NoCase => answer_other(line, out),
-        a => fixed::put(a, out),
+    if answer_case(line, out).is_none() {
+        out.byte(b'?')
     }
-    print::put(out, b'\n')
+    out.byte(b'\n')
 }
 
-fn answer_other(line: &[u8], out: &mut Output) {
-    match deltas::of_line(line) {
-        deltas::Answer::NoCase => answer_measures(line, out),
-        a => deltas::put(a, out),
-    }
+// Each module that answers cases is asked, until one knows the case and can read it: nothing is put before
+// all of a case is read. No case has more than ten words.
+fn answer_case(line: &[u8], out: &mut Output) -> Option<()> {
+    let ten: [&[u8]; 10] = array::from_fn(|k| word(line, k));
+    let words = ten.get(..count(line))?;
+    fixed::answer(words, out)
+        .or_else(|| deltas::answer(words, out))
+        .or_else(|| measures::answer(words, out))
+        .or_else(|| glyphs::answer(words, out))
+        .or_else(|| tables::answer(words, out))
+        .or_else(|| scalars::answer(words, out))
+        .or_else(|| fvar::answer(words, out))
+        .or_else(|| coords::answer(words, out))
 }
 
-fn answer_measures(line: &[u8], out: &mut Output) {
-    match measures::of_line(line) {
-        measures::Answer::NoCase => answer_glyph(line, out),
-        a => measures::put(a, out),
-    }
+// A line that fills its room is no case: its end is not there.
+fn answer_whole(line: &Line, out: &mut Output) {
+    answer(if line.is_full() { b"" } else { line.as_slice() }, out)
 }
 
-fn answer_glyph(line: &[u8], out: &mut Output) {
-    match glyphs::of_line(line) {
-        glyphs::Answer::NoCase => answer_tables(line, out),
-        a => glyphs::put(a, out),
-    }
-}
-
-fn answer_tables(line: &[u8], out: &mut Output) {
-    match tables::of_line(line) {
-        tables::Answer::NoCase => answer_scalars(line, out),
-        a => tables::put(a, out),
-    }
-}
-
-fn answer_scalars(line: &[u8], out: &mut Output) {
-    if scalars::takes(line) {
-        return scalars::put_line(line, out);
-    }
-    fvar::put_line(line, out)
-}
-
-// A line that fills the buffer is no case: its end is not there.
-fn answer_first(line: &Buffer, length: usize, out: &mut Output) {
-    let whole: &[u8] = line;
-    if length < whole.len() {
-        return answer(&whole[0..length], out);
-    }
-    answer(b"", out)
-}
-
-// Takes bytes that were read, and answers each line that they end; `come` bytes of the first line have
-// come before, and as many as it answers have come of the line after.
-fn feed(bytes: &[u8], line: &mut Buffer, out: &mut Output, come: usize) -> usize {
-    let mut length = come;
-    let mut i = 0;
-    while i < bytes.len() {
-        let byte = bytes[i];
-        i += 1;
-        if byte == b'\n' {
-            answer_first(line, length, out);
-            length = 0;
-            continue;
-        }
-        if length < 65536 {
-            line[length] = byte;
-            length += 1;
+// Takes bytes that were read, and answers each line that they end.
+fn feed(bytes: &[u8], line: &mut Line, out: &mut Output) {
+    for byte in bytes {
+        if *byte == b'\n' {
+            answer_whole(line, out);
+            line.clear();
+        } else if !line.is_full() {
+            line.push(*byte)
         }
     }
-    length
-}
-
-// Reads once, and answers the lines that came to an end.
-fn read_some(
-    from: &mut Stdin,
-    line: &mut Buffer,
-    out: &mut Output,
-    length: usize,
-) -> io::Result<State> {
-    let mut buf = parse::empty_bytes();
-    let n = from.read(&mut buf)?;
-    if n == 0 {
-        return Ok(State {
-            length,
-            more: false,
-        });
-    }
-    Ok(State {
-        length: feed(&buf[..n], line, out, length),
-        more: true,
-    })
-}
-
-// Answers each line that the input ends, and answers how many bytes of one more there are. A proved
-// loop has to end, and nothing says that the input does: no run uses up so many turns.
-fn run(from: &mut Stdin, line: &mut Buffer, out: &mut Output) -> io::Result<usize> {
-    let mut length = 0;
-    for _ in 0..u64::MAX {
-        let state = read_some(from, line, out, length)?;
-        length = state.length;
-        print::flush(out)?;
-        if !state.more {
-            break;
-        }
-    }
-    Ok(length)
 }
 
 fn main(rt: HostRuntime) -> io::Result<()> {
-    let mut line = parse::empty_bytes();
+    let mut from = rt.stdin();
     let mut out = Output::new(rt.stdout());
-    let length = run(&mut rt.stdin(), &mut line, &mut out)?;
-    // the last line may lack its end
-    if length > 0 {
-        answer_first(&line, length, &mut out);
+    let mut line = ArrayVec::new();
+    let mut bytes = [0; 65536];
+    // a proved loop has to end, and nothing says that the input does: no run uses up so many turns
+    for _ in 0..u64::MAX {
+        let n = from.read(&mut bytes)?;
+        if n == 0 {
+            break;
+        }
+        feed(&bytes[..n], &mut line, &mut out);
+        out.flush()?;
     }
-    print::flush(&mut out)
+    // the last line may lack its end
+    if !line.is_empty() {
+        answer_whole(&line, &mut out);
+    }
+    out.flush()
 }

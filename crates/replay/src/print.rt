@@ -1,9 +1,10 @@
-// The text of answers. It goes into a buffer, which is written out when it is full.
-ghost use Rattle.std.specs.Prelude.{◌≡◌, ◌≤◌};
+// The text of answers. It waits in a buffer, which is written out when it is full.
+ghost use Rattle.std.specs.Prelude.{◌≡◌, []};
 
-use crate::{Buffer, parse};
+use arrayvec::ArrayVec;
+use itoa::{Buffer, Integer};
 use numbers::{F2Dot14, Fixed};
-use readers::{FixedAnswer, Half};
+use readers::Refusal;
 use std::io;
 use std::io::{Stdout, Write};
 
@@ -12,209 +13,197 @@ use std::io::{Stdout, Write};
 #[derive(Drop)]
 pub(crate) struct Output {
     to: Stdout,
-    bytes: Buffer,
-    waiting: usize,
+    waiting: ArrayVec<u8, 65536>,
     written: io::Result<()>,
-    ghost fits: { waiting ≤ 65536 },
 }
 
 impl Output {
     pub(crate) fn new(to: Stdout) -> Output {
         Output {
             to,
-            bytes: parse::empty_bytes(),
-            waiting: 0,
+            waiting: ArrayVec::new(),
             written: Ok(()),
         }
     }
-}
 
-// Puts a byte behind those that wait.
-pub(crate) fn put(out: &mut Output, byte: u8) {
-    if out.waiting == 65536 {
-        write_out(out);
+    // Puts a byte behind those that wait.
+    pub(crate) fn byte(&mut self, byte: u8) {
+        if self.waiting.is_full() {
+            self.write_out();
+        }
+        self.waiting.push(byte)
     }
-    out.bytes[out.waiting] = byte;
-    out.waiting += 1;
-}
 
-fn write_out(out: &mut Output)
-    ensures { out.new.waiting ≡ 0 }
-{
-    if out.written.is_ok() {
-        out.written = out.to.write_all(&out.bytes[..out.waiting]);
+    fn write_out(&mut self)
+        ensures { self.new.waiting.items ≡ [] }
+    {
+        if self.written.is_ok() {
+            self.written = self.to.write_all(&self.waiting);
+        }
+        self.waiting.clear()
     }
-    out.waiting = 0;
-}
 
-// Writes out what waits.
-pub(crate) fn flush(out: &mut Output) -> io::Result<()> {
-    write_out(out);
-    out.written
-}
-
-pub(crate) fn put_text(out: &mut Output, text: &[u8]) {
-    let mut i = 0;
-    while i < text.len() {
-        put(out, text[i]);
-        i += 1;
+    // Writes out what waits.
+    pub(crate) fn flush(&mut self) -> io::Result<()> {
+        self.write_out();
+        self.written
     }
-}
 
-// A number in decimal.
-pub(crate) fn put_natural(out: &mut Output, n: u64) {
-    // the largest has 20 digits
-    let mut text = [0u8; 20];
-    let mut at = 20;
-    let mut rest = n;
-    while at > 0 {
-        at -= 1;
-        text[at] = b'0' + (rest % 10) as u8;
-        rest /= 10;
-        if rest == 0 {
-            break;
+    pub(crate) fn text(&mut self, text: &[u8]) {
+        for byte in text {
+            self.byte(*byte)
         }
     }
-    put_text(out, &text[at..])
-}
 
-// The signed number with the 32 bits n, in decimal.
-pub(crate) fn put_integer(out: &mut Output, n: u32) {
-    if n < 0x8000_0000 {
-        return put_natural(out, n as u64);
+    fn decimal(&mut self, n: impl Integer) {
+        self.text(Buffer::new().format(n).as_bytes())
     }
-    put(out, b'-');
-    put_natural(out, 0x1_0000_0000 - n as u64)
-}
 
-// A 2.14 number, as its raw integer.
-pub(crate) fn put_half(out: &mut Output, x: F2Dot14) {
-    put_integer(out, half_bits(x))
-}
-
-// The raw integer's 32 bits.
-pub(crate) fn half_bits(x: F2Dot14) -> u32 {
-    let n = x.to_bits() as u32;
-    if n < 0x8000 { n } else { n + 0xffff_0000 }
-}
-
-// 32 bits as eight hexadecimal digits.
-pub(crate) fn put_bits(out: &mut Output, n: u32) {
-    put_bytes(out, &n.to_be_bytes())
-}
-
-// A float's bits, or `nan`.
-pub(crate) fn put_float(out: &mut Output, x: f32) {
-    if x != x {
-        return put_text(out, b"nan");
+    pub(crate) fn put(&mut self, x: impl Print) {
+        x.print(self)
     }
-    put_bits(out, float_bits(x))
+
+    // A blank, and x.
+    pub(crate) fn next(&mut self, x: impl Print) {
+        self.byte(b' ');
+        x.print(self)
+    }
+
+    // What a function answers that can't refuse.
+    pub(crate) fn value(&mut self, x: impl Print) {
+        self.text(b"value");
+        self.next(x)
+    }
+
+    // The same of a function that answers several.
+    pub(crate) fn values<T: Print + Copy>(&mut self, values: &[T]) {
+        self.text(b"value");
+        for x in values {
+            self.next(*x)
+        }
+    }
+
+    // A blank, and a list's elements with a comma between two, or a minus for none.
+    pub(crate) fn list<T: Print + Copy>(&mut self, list: &[T]) {
+        self.byte(b' ');
+        if list.is_empty() {
+            self.byte(b'-')
+        }
+        for (i, x) in list.iter().enumerate() {
+            if i > 0 {
+                self.byte(b',')
+            }
+            self.put(*x)
+        }
+    }
+}
+
+// What has a text in an answer.
+pub(crate) trait Print {
+    fn print(self, out: &mut Output);
+}
+
+impl Print for u16 {
+    fn print(self, out: &mut Output) {
+        out.decimal(self)
+    }
+}
+
+impl Print for u32 {
+    fn print(self, out: &mut Output) {
+        out.decimal(self)
+    }
+}
+
+impl Print for bool {
+    fn print(self, out: &mut Output) {
+        out.byte(if self { b'1' } else { b'0' })
+    }
+}
+
+impl Print for i16 {
+    fn print(self, out: &mut Output) {
+        out.decimal(self)
+    }
+}
+
+// A 2.14 or 16.16 number is printed as its raw integer.
+impl Print for F2Dot14 {
+    fn print(self, out: &mut Output) {
+        out.decimal(self.0)
+    }
+}
+
+impl Print for Fixed {
+    fn print(self, out: &mut Output) {
+        out.decimal(self.0)
+    }
 }
 
 // Bytes, two hexadecimal digits each, or a minus for none.
-pub(crate) fn put_bytes(out: &mut Output, bytes: &[u8]) {
-    if bytes.len() == 0 {
-        return put(out, b'-');
-    }
-    let mut i = 0;
-    while i < bytes.len() {
-        put_byte(out, bytes[i]);
-        i += 1;
-    }
-}
-
-fn put_byte(out: &mut Output, byte: u8) {
-    let digits = b"0123456789abcdef";
-    put(out, digits[(byte / 16) as usize]);
-    put(out, digits[(byte % 16) as usize])
-}
-
-// What a list has before its element i: nothing before the first, else a comma.
-pub(crate) fn put_comma(out: &mut Output, i: usize) {
-    if i > 0 {
-        put(out, b',')
-    }
-}
-
-// A blank, and a number in decimal.
-pub(crate) fn put_next(out: &mut Output, n: u64) {
-    put(out, b' ');
-    put_natural(out, n)
-}
-
-// Each number behind a blank.
-pub(crate) fn put_numbers(out: &mut Output, numbers: &[u64]) {
-    let mut i = 0;
-    while i < numbers.len() {
-        put_next(out, numbers[i]);
-        i += 1;
-    }
-}
-
-// What a function answers that answers numbers.
-pub(crate) fn put_values(out: &mut Output, numbers: &[u64]) {
-    put_text(out, b"value");
-    put_numbers(out, numbers)
-}
-
-// A blank, and 32 bits.
-pub(crate) fn put_next_bits(out: &mut Output, n: u32) {
-    put(out, b' ');
-    put_bits(out, n)
-}
-
-// A blank, and a 16.16 number.
-pub(crate) fn put_next_fixed(out: &mut Output, x: Fixed) {
-    put(out, b' ');
-    put_integer(out, x.to_bits())
-}
-
-// A blank, and a float.
-pub(crate) fn put_next_float(out: &mut Output, x: f32) {
-    put(out, b' ');
-    put_float(out, x)
-}
-
-// Each float behind a blank.
-pub(crate) fn put_floats(out: &mut Output, floats: &[f32]) {
-    let mut i = 0;
-    while i < floats.len() {
-        put_next_float(out, floats[i]);
-        i += 1;
-    }
-}
-
-pub(crate) fn put_refused(out: &mut Output, number: u8) {
-    put_text(out, b"refused");
-    put_next(out, number as u64)
-}
-
-// What a function answers that writes a list: a count or a refusal.
-pub(crate) fn put_count(out: &mut Output, answer: Half) {
-    match answer {
-        Half::Value(n) => {
-            put_text(out, b"value");
-            put_next(out, n as u64)
+impl Print for &[u8] {
+    fn print(self, out: &mut Output) {
+        let digits = b"0123456789abcdef";
+        if self.is_empty() {
+            out.byte(b'-')
         }
-        Half::Refused(r) => put_refused(out, readers::number(r)),
-    }
-}
-
-// A 16.16 number or a refusal.
-pub(crate) fn put_fixed(out: &mut Output, answer: FixedAnswer) {
-    match answer {
-        FixedAnswer::Value(x) => {
-            put_text(out, b"value");
-            put_next_fixed(out, x)
+        for byte in self {
+            out.byte(digits[usize::from(*byte / 16)]);
+            out.byte(digits[usize::from(*byte % 16)])
         }
-        FixedAnswer::Refused(r) => put_refused(out, readers::number(r)),
     }
 }
 
-// A float's bits. All NaNs are one.
-pub(crate) fn float_bits(x: f32) -> u32 {
-    if x != x {
-        return 0x7fc0_0000;
+// 32 bits, as of a tag: eight hexadecimal digits.
+#[derive(Clone, Copy)]
+pub(crate) struct Bits(pub(crate) u32);
+
+impl Print for Bits {
+    fn print(self, out: &mut Output) {
+        out.put(self.0.to_be_bytes().as_slice())
     }
-    f32::to_bits(x)
+}
+
+// A scalar, which a list has by its bits.
+impl Print for i32 {
+    fn print(self, out: &mut Output) {
+        out.put(Bits(self.cast_unsigned()))
+    }
+}
+
+// Its bits, or `nan`.
+impl Print for f32 {
+    fn print(self, out: &mut Output) {
+        if self.is_nan() {
+            return out.text(b"nan");
+        }
+        out.put(Bits(self.to_bits()))
+    }
+}
+
+// A minus for none.
+impl<T: Print> Print for Option<T> {
+    fn print(self, out: &mut Output) {
+        match self {
+            Some(x) => out.put(x),
+            None => out.byte(b'-'),
+        }
+    }
+}
+
+// What a function answers that can refuse.
+impl<T: Print> Print for Result<T, Refusal> {
+    fn print(self, out: &mut Output) {
+        match self {
+            Ok(x) => out.value(x),
+            Err(refusal) => out.refused(readers::number(refusal)),
+        }
+    }
+}
+
+impl Output {
+    pub(crate) fn refused(&mut self, number: u8) {
+        self.text(b"refused");
+        self.next(u16::from(number))
+    }
 }

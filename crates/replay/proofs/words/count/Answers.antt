@@ -1,17 +1,9 @@
--- The words so far and those of the rest are one too many. Assumes nothing.
-use Rattle.std.proofs.Common.{ap, arith}
-use Rattle.replay.specs.Words.{word_count}
-use Rattle.replay.proofs.Texts.{one_word_more, same_words, all_passed}
+-- There are as many as `split` cuts. Assumes nothing.
+use Rattle.std.proofs.Common.{rules, eqb, ◌∙◌}
+use Rattle.std.proofs.lemmas.Iterator.Consumers.{count_from_yields_List}
+use Rattle.std.proofs.lemmas.Iterator.Splits.{YieldsList-from_slice_split}
+use Rattle.replay.proofs.Texts.{words_counted}
 use Rattle.replay.proofs.words.count.Goals as goal
-use Rattle.replay.proofs.words.count.Goals.{then-line-i-eq32, else-line-i-eq32}
-
-pub loop-i-preserved : goal.loop-i-preserved
-loop-i-preserved c =
-    elim c.if-line-i-eq32.branch [
-      | then-line-i-eq32 w ↦ (omega arith, omega arith, omega (arith, one_word_more c.args.line.now c.loop-i.i c.loop-i-test.true w.if-line-i-eq32.true))
-      | else-line-i-eq32 w ↦ (omega arith, omega arith, omega (arith, same_words c.args.line.now c.loop-i.i c.loop-i-test.true w.if-line-i-eq32.false))
-    ]
 
 pub returns : goal.returns
-unfolding word_count
-returns c = omega (arith, ap word_count (all_passed c.args.line.now c.loop-i.i c.loop-i.invariant.0 c.loop-i-test.false))
+returns c = count_from_yields_List c.split.result _ c.count.ensures.ran (YieldsList-from_slice_split _ (λ b. eqb b 32) c.args.line.now c.split.ensures.rest c.split.ensures.done c.split.ensures.closure (λ x b q k. search rules)) ∙ words_counted c.args.line.now

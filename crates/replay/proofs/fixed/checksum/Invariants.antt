@@ -1,8 +1,0 @@
--- Nothing has to hold from turn to turn: those that are left are counted down. Assumes nothing.
-use Rattle.replay.proofs.fixed.checksum.Given as goal
-
-abbrev pub invariant-loop-left : goal.invariant-loop-left
-invariant-loop-left l = Unit {0}
-
-abbrev pub decreases-loop-left : goal.decreases-loop-left
-decreases-loop-left l = l.left

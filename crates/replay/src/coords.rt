@@ -1,6 +1,5 @@
 // Cases of normalising and of coordinate lists. A font and the avar's offset in it are a case's last two
 // words; without these it has no avar, which is an offset of 0.
-use crate::old;
 use crate::parse::{Bytes, bits, bytes, fixed, float, index, list, natural, room};
 use crate::print::Output;
 use arrayvec::ArrayVec;
@@ -82,7 +81,7 @@ fn put_coord(words: &[&[u8]], out: &mut Output) -> Option<()> {
         max: fixed(max)?,
     };
     let coord = axis.normalized_coord(fixed(value)?, &avar.font, avar.offset);
-    out.put(old::f2dot14(coord));
+    out.put(coord);
     Some(())
 }
 
@@ -93,7 +92,7 @@ fn put_settings(words: &[&[u8]], out: &mut Output) -> Option<()> {
     let mut coords = room(size, MARK)?;
     let (tags, values) = (list(tags, bits)?, list(values, float)?);
     let (table, avar) = (bytes(table)?, Avar::read_any(avar)?);
-    out.put(old::half(normalized_coords(
+    out.put(normalized_coords(
         Fvar::new(&table),
         &table,
         &avar.font,
@@ -101,7 +100,7 @@ fn put_settings(words: &[&[u8]], out: &mut Output) -> Option<()> {
         &tags,
         &values,
         &mut coords,
-    )));
+    ));
     out.list(&coords);
     Some(())
 }
@@ -113,14 +112,14 @@ fn put_instance(words: &[&[u8]], out: &mut Output) -> Option<()> {
     let i = index(i)?;
     let mut coords = room(size, MARK)?;
     let (table, avar) = (bytes(table)?, Avar::read_any(avar)?);
-    out.put(old::half(instance_coords(
+    out.put(instance_coords(
         Fvar::new(&table),
         &table,
         &avar.font,
         avar.offset,
         i,
         &mut coords,
-    )));
+    ));
     out.list(&coords);
     Some(())
 }

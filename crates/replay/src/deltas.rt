@@ -1,5 +1,4 @@
 // Cases of the item variation store, of a glyph's deltas and of MVAR, and its tags.
-use crate::old;
 use crate::parse::{Place, bits, bytes, index, natural};
 use crate::print::{Output, Print};
 use store::metric::float_of;
@@ -12,12 +11,12 @@ pub(crate) fn answer(words: &[&[u8]], out: &mut Output) -> Option<()> {
         [b"mvar_tags"] => put_tags(out),
         [b"mvar_new", font, offset] => {
             let offset = natural(offset)?;
-            out.put(old::header(mvar::mvar_header(&bytes(font)?, offset)))
+            out.put(mvar::mvar_header(&bytes(font)?, offset))
         }
         [b"item_delta", font, store, outer, inner, coords] => {
             let (outer, inner) = (natural(outer)?, index(inner)?);
             let at = Place::read(font, store, coords)?;
-            out.put(old::fixed(item::item_delta(&at.font, at.offset, outer, inner, &at.coords)))
+            out.put(item::item_delta(&at.font, at.offset, outer, inner, &at.coords))
         }
         [name, font, offset, what, coords] => {
             return put_delta(name, &Place::read(font, offset, coords)?, what, out);
@@ -35,17 +34,12 @@ fn put_delta(name: &[u8], at: &Place, what: &[u8], out: &mut Output) -> Option<(
         coords,
     } = at;
     match name {
-        b"mvar_fixed" => out.put(old::fixed(mvar::mvar_delta(font, *offset, bits(what)?, coords))),
+        b"mvar_fixed" => out.put(mvar::mvar_delta(font, *offset, bits(what)?, coords)),
         b"mvar_delta" => out.value(float_of(mvar::mvar_delta(font, *offset, bits(what)?, coords))),
         b"advance_fixed" => {
-            out.put(old::fixed(metric::advance_delta_fixed(font, *offset, index(what)?, coords)))
+            out.put(metric::advance_delta_fixed(font, *offset, index(what)?, coords))
         }
-        b"sb_fixed" => out.put(old::fixed(metric::sb_delta_fixed(
-            font,
-            *offset,
-            index(what)?,
-            coords,
-        ))),
+        b"sb_fixed" => out.put(metric::sb_delta_fixed(font, *offset, index(what)?, coords)),
         b"advance_delta" => out.value(metric::advance_delta(font, *offset, index(what)?, coords)),
         b"sb_delta" => out.value(metric::sb_delta(font, *offset, index(what)?, coords)),
         _ => return None,

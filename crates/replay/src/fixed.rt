@@ -5,20 +5,20 @@ use numbers::{F2Dot14, Fixed};
 
 pub(crate) fn answer(words: &[&[u8]], out: &mut Output) -> Option<()> {
     match words {
-        [b"from_f32", x] => out.put(Fixed::from_f32(float(x)?)),
-        [b"neg", x] => out.put(fixed(x)?.neg()),
+        [b"from_f32", x] => out.put(Fixed::from(float(x)?)),
+        [b"neg", x] => out.put(-fixed(x)?),
         [b"from_i32", x] => out.put(Fixed::from_i32(fixed(x)?.0)),
-        [b"from_f2dot14", x] => out.put(Fixed::from_f2dot14(F2Dot14(half(x)?))),
+        [b"from_f2dot14", x] => out.put(Fixed::from(F2Dot14(half(x)?))),
         [b"to_f2dot14", x] => out.put(fixed(x)?.to_f2dot14()),
-        [b"to_f32", x] => out.put(fixed(x)?.to_f32()),
+        [b"to_f32", x] => out.put(f32::from(fixed(x)?)),
         [b"from_f32_block", start, count] => {
             out.put(checksum(natural(start)?, natural(count)?, |n| {
-                Fixed::from_f32(numerals::float(n)).to_bits()
+                Fixed::from(numerals::float(n)).to_bits()
             }))
         }
         [b"to_f32_block", start, count] => {
             out.put(checksum(natural(start)?, natural(count)?, |n| {
-                float_bits(Fixed::from_bits(n).to_f32())
+                float_bits(Fixed::from_bits(n).into())
             }))
         }
         [b"muldiv", x, y, z] => out.put(numbers::muldiv(fixed(x)?, fixed(y)?, fixed(z)?)),
@@ -30,13 +30,13 @@ pub(crate) fn answer(words: &[&[u8]], out: &mut Output) -> Option<()> {
 
 fn of_two(name: &[u8], x: Fixed, y: Fixed, out: &mut Output) -> Option<()> {
     match name {
-        b"add" => out.put(x.add(y)),
-        b"sub" => out.put(x.sub(y)),
-        b"lt" => out.put(x.lt(y)),
+        b"add" => out.put(x + y),
+        b"sub" => out.put(x - y),
+        b"lt" => out.put(x < y),
         b"min" => out.put(x.min(y)),
         b"max" => out.put(x.max(y)),
-        b"mul" => out.put(x.mul(y)),
-        b"div" => out.put(x.div(y)),
+        b"mul" => out.put(x * y),
+        b"div" => out.put(x / y),
         _ => return None,
     }
     Some(())

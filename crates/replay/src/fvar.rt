@@ -1,5 +1,4 @@
 // Cases of fvar: the header, axes, instances and their values.
-use crate::old;
 use crate::parse::{bits, bytes, index, room};
 use crate::print::{Bits, Output, Print};
 use axes::axis::VarAxis;
@@ -25,7 +24,7 @@ pub(crate) fn answer(words: &[&[u8]], out: &mut Output) -> Option<()> {
             let mut floats = room(size, f32::MAX)?;
             let table = bytes(table)?;
             let fvar = Fvar::new(&table);
-            out.put(old::half(fvar.instance_floats(&table, i, &mut floats)));
+            out.put(fvar.instance_floats(&table, i, &mut floats));
             out.list(&floats)
         }
         _ => return None,
@@ -36,24 +35,15 @@ pub(crate) fn answer(words: &[&[u8]], out: &mut Output) -> Option<()> {
 fn of_table(name: &[u8], table: &[u8], what: &[u8], out: &mut Output) -> Option<()> {
     let fvar = Fvar::new(table);
     match name {
-        b"get_axis_by_tag" => out.put(old::axis(fvar.get_axis_by_tag(table, bits(what)?))),
-        b"find_by_tag" => out.put(old::axis(fvar.find_by_tag(table, bits(what)?))),
-        b"get_axis" => out.put(old::axis(fvar.get_axis(table, index(what)?))),
-        b"get_instance" => out.put(old::instance(fvar.get_instance(table, index(what)?))),
-        b"instance_values" => put_values(fvar, table, index(what)?, out),
-        b"instance_value" => out.put(old::fixed(axes::fvar::instance_value(table, index(what)?))),
+        b"get_axis_by_tag" => out.put(fvar.get_axis_by_tag(table, bits(what)?)),
+        b"find_by_tag" => out.put(fvar.find_by_tag(table, bits(what)?)),
+        b"get_axis" => out.put(fvar.get_axis(table, index(what)?)),
+        b"get_instance" => out.put(fvar.get_instance(table, index(what)?)),
+        b"instance_values" => out.put(fvar.instance_values(table, index(what)?)),
+        b"instance_value" => out.put(axes::fvar::instance_value(table, index(what)?)),
         _ => return None,
     }
     Some(())
-}
-
-fn put_values(fvar: Fvar, table: &[u8], index: u16, out: &mut Output) {
-    let mut number = 0;
-    let values = fvar.instance_values(table, index, &mut number);
-    if number != 0 {
-        return out.refused(number);
-    }
-    out.value(values)
 }
 
 // Its numbers, and what its methods answer.
@@ -77,6 +67,6 @@ impl Print for VarInstance {
     fn print(self, out: &mut Output) {
         out.put(self.index);
         out.next(self.name_id);
-        out.next(old::name_id(self.postscript_name_id))
+        out.next(self.postscript_name_id)
     }
 }

@@ -1,5 +1,4 @@
 // Cases of a glyph's advances, bearings and vertical origin.
-use crate::old;
 use crate::parse::{Bytes, List, bits, bytes, flag, float, half, halves, index, list, natural};
 use crate::print::Output;
 use metrics::glyph;
@@ -125,8 +124,8 @@ impl Origin {
                 glyph.id,
                 &glyph.coords,
                 self.bearing,
-                old::ordinate(self.y_max),
-                old::ordinate(self.vorg),
+                self.y_max,
+                self.vorg,
             ),
         )
     }

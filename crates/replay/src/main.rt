@@ -8,7 +8,6 @@ mod fixed;
 mod fvar;
 mod glyphs;
 mod measures;
-mod old;
 mod parse;
 mod print;
 mod scalars;
@@ -68,6 +67,7 @@ fn main(rt: HostRuntime) -> io::Result<()> {
     let mut from = rt.stdin();
     let mut out = Output::new(rt.stdout());
     let mut line = ArrayVec::new();
+    // `read` fills an array from its start, and says how far
     let mut bytes = [0; 65536];
     // a proved loop has to end, and nothing says that the input does: no run uses up so many turns
     for _ in 0..u64::MAX {

@@ -1,23 +1,13 @@
 // The text of a case's arguments. Where a text says none of what is asked for, the answer is `None`.
-use crate::old;
 use arrayvec::ArrayVec;
 use numbers::Fixed;
+pub(crate) use numerals::{index, natural};
 
 // What the arguments of a case say has room in the program's own memory: bytes by two digits each, of
 // which a line has fewer than 65,536, and lists of at most 256 elements.
 pub(crate) type Bytes = ArrayVec<u8, 32768>;
 
 pub(crate) type List<T> = ArrayVec<T, 256>;
-
-// A number below 2^32 in decimal.
-pub(crate) fn natural(text: &[u8]) -> Option<u32> {
-    old::parsed(numerals::natural(text))
-}
-
-// A number below 2^16 in decimal.
-pub(crate) fn index(text: &[u8]) -> Option<u16> {
-    old::place(numerals::index(text))
-}
 
 // 0 or 1 in decimal.
 pub(crate) fn flag(text: &[u8]) -> Option<bool> {
@@ -30,7 +20,7 @@ pub(crate) fn flag(text: &[u8]) -> Option<bool> {
 
 // A 16.16 number: its raw integer in decimal.
 pub(crate) fn fixed(text: &[u8]) -> Option<Fixed> {
-    Some(Fixed::from_bits(old::parsed(numerals::integer(text))?))
+    Some(Fixed::from_bits(numerals::integer(text)?))
 }
 
 // A signed 16-bit number in decimal, as a 2.14 number's raw integer is.
@@ -40,7 +30,7 @@ pub(crate) fn half(text: &[u8]) -> Option<i16> {
 
 // 32 bits, as of a tag: eight hexadecimal digits.
 pub(crate) fn bits(text: &[u8]) -> Option<u32> {
-    old::parsed(numerals::float_bits(text))
+    numerals::float_bits(text)
 }
 
 pub(crate) fn float(text: &[u8]) -> Option<f32> {
@@ -121,6 +111,5 @@ pub(crate) fn bytes(text: &[u8]) -> Option<Bytes> {
 
 // The byte with two hexadecimal digits.
 fn octet(high: u8, low: u8) -> Option<u8> {
-    let n = 16 * old::digit(numerals::digit(high))? + old::digit(numerals::digit(low))?;
-    Some(n as u8)
+    Some(16 * numerals::digit(high)? + numerals::digit(low)?)
 }

@@ -196,14 +196,10 @@ impl<T: Print> Print for Result<T, Refusal> {
     fn print(self, out: &mut Output) {
         match self {
             Ok(x) => out.value(x),
-            Err(refusal) => out.refused(readers::number(refusal)),
+            Err(refusal) => {
+                out.text(b"refused");
+                out.next(u16::from(u8::from(refusal)))
+            }
         }
-    }
-}
-
-impl Output {
-    pub(crate) fn refused(&mut self, number: u8) {
-        self.text(b"refused");
-        self.next(u16::from(number))
     }
 }

@@ -1,5 +1,4 @@
 // Cases of scalars in a lent list: where a store is, filling a list, and the deltas that are read with one.
-use crate::old;
 use crate::parse::{Place, bits, bytes, index, list, natural, scalar};
 use crate::print::Output;
 use lines::filling::fill_scalars;
@@ -23,16 +22,16 @@ pub(crate) fn answer(words: &[&[u8]], out: &mut Output) -> Option<()> {
     match words {
         [b"store_offset", font, xvar] => {
             let xvar = natural(xvar)?;
-            out.put(old::word(store_of(&bytes(font)?, xvar)))
+            out.put(store_of(&bytes(font)?, xvar))
         }
         [b"mvar_store_offset", font, offset] => {
             let offset = natural(offset)?;
-            out.put(old::half(mvar::mvar_store(&bytes(font)?, offset)))
+            out.put(mvar::mvar_store(&bytes(font)?, offset))
         }
         [b"fill_scalars", font, store, coords, scalars] => {
             let mut scalars = list(scalars, scalar)?;
             let at = Place::read(font, store, coords)?;
-            out.put(old::half(fill_scalars(&at.font, at.offset, &at.coords, &mut scalars)));
+            out.put(fill_scalars(&at.font, at.offset, &at.coords, &mut scalars));
             out.list(&scalars)
         }
         [name, font, offset, what @ .., scalars] if name.ends_with(b"_with") => {
@@ -81,15 +80,15 @@ impl Delta {
             coords,
         } = at;
         match self {
-            Delta::Item { .. } => old::half(fill_scalars(font, *offset, coords, scalars)),
+            Delta::Item { .. } => fill_scalars(font, *offset, coords, scalars),
             Delta::AdvanceFixed(_) | Delta::SbFixed(_) | Delta::Advance(_) | Delta::Sb(_) => {
-                let store = old::word(store_of(font, *offset))?;
-                old::half(fill_scalars(font, store, coords, scalars))
+                let store = store_of(font, *offset)?;
+                fill_scalars(font, store, coords, scalars)
             }
             Delta::MvarFixed(_) | Delta::Mvar(_) => {
-                let store = old::half(mvar::mvar_store(font, *offset))?;
+                let store = mvar::mvar_store(font, *offset)?;
                 let mvar = font.get(*offset as usize..).unwrap_or(b"");
-                old::half(fill_scalars(mvar, u32::from(store), coords, scalars))
+                fill_scalars(mvar, u32::from(store), coords, scalars)
             }
         }
     }
@@ -98,21 +97,19 @@ impl Delta {
     fn put(self, font: &[u8], offset: u32, scalars: &[i32], out: &mut Output) {
         match self {
             Delta::Item { outer, inner } => {
-                out.put(old::fixed(item::item_delta_with(font, offset, outer, inner, scalars)))
+                out.put(item::item_delta_with(font, offset, outer, inner, scalars))
             }
             Delta::AdvanceFixed(glyph) => {
-                out.put(old::fixed(metric::advance_delta_fixed_with(font, offset, glyph, scalars)))
+                out.put(metric::advance_delta_fixed_with(font, offset, glyph, scalars))
             }
             Delta::SbFixed(glyph) => {
-                out.put(old::fixed(metric::sb_delta_fixed_with(font, offset, glyph, scalars)))
+                out.put(metric::sb_delta_fixed_with(font, offset, glyph, scalars))
             }
             Delta::Advance(glyph) => {
                 out.value(metric::advance_delta_with(font, offset, glyph, scalars))
             }
             Delta::Sb(glyph) => out.value(metric::sb_delta_with(font, offset, glyph, scalars)),
-            Delta::MvarFixed(tag) => {
-                out.put(old::fixed(mvar::mvar_delta_with(font, offset, tag, scalars)))
-            }
+            Delta::MvarFixed(tag) => { out.put(mvar::mvar_delta_with(font, offset, tag, scalars)) }
             Delta::Mvar(tag) => {
                 out.value(float_of(mvar::mvar_delta_with(font, offset, tag, scalars)))
             }

@@ -1,6 +1,5 @@
 // Cases of hmtx, vmtx and VORG, and of a glyph's measures from one call.
 use crate::glyphs::{Glyph, level, ordinate, synthesized};
-use crate::old;
 use crate::parse::{bits, bytes, float, index, list, natural};
 use crate::print::Output;
 use metrics::glyph::GlyphMetrics;
@@ -33,7 +32,7 @@ fn put_vorg(words: &[&[u8]], out: &mut Output) -> Option<()> {
         return None;
     };
     let (vorg, id) = (natural(vorg)?, index(id)?);
-    out.put(old::signed(vorg::origin(&bytes(font)?, vorg, id)));
+    out.put(vorg::origin(&bytes(font)?, vorg, id));
     Some(())
 }
 
@@ -46,8 +45,8 @@ fn put_unvaried(
     out: &mut Output,
 ) -> Option<()> {
     match name {
-        b"xmtx_advance" => out.put(old::half(xmtx::advance(font, xmtx, long_metric_count, id))),
-        b"xmtx_sb" => out.put(old::signed(xmtx::sb(font, xmtx, long_metric_count, id))),
+        b"xmtx_advance" => out.put(xmtx::advance(font, xmtx, long_metric_count, id)),
+        b"xmtx_sb" => out.put(xmtx::sb(font, xmtx, long_metric_count, id)),
         _ => return None,
     }
     Some(())
@@ -58,10 +57,10 @@ fn put_origin(words: &[&[u8]], out: &mut Output) -> Option<()> {
         return None;
     };
     let unvaried = with_vmtx(tables, index(units_per_em)?)?;
-    let (y_max, scale) = (old::ordinate(ordinate(y_max)?), float(scale)?);
+    let (y_max, scale) = (ordinate(y_max)?, float(scale)?);
     let of = Glyph::read(font, id, coords)?;
     let m = of.scaled(unvaried, scale);
-    out.put(old::float(glyph::vertical_origin(m, &of.font, of.id, &of.coords, y_max)));
+    out.put(glyph::vertical_origin(m, &of.font, of.id, &of.coords, y_max));
     Some(())
 }
 
@@ -72,13 +71,13 @@ fn put_measure(name: &[u8], of: &Glyph, tables: &[u8], scale: f32, out: &mut Out
     };
     let m = of.scaled(unvaried, scale);
     let Glyph { font, id, coords } = of;
-    out.put(old::float(match name {
+    out.put(match name {
         b"read_advance_width" => glyph::advance_width(m, font, *id, coords),
         b"read_lsb" => glyph::lsb(m, font, *id, coords),
         b"read_advance_height" => glyph::advance_height(m, font, *id, coords),
         b"read_tsb" => glyph::tsb(m, font, *id, coords),
         _ => return None,
-    }));
+    });
     Some(())
 }
 
@@ -110,13 +109,13 @@ fn put_adjusted(name: &[u8], table: Table, of: &Glyph, out: &mut Output) -> Opti
         scale,
     } = table;
     let Glyph { font, id, coords } = of;
-    out.put(old::float(match name {
+    out.put(match name {
         b"adjusted_advance" => {
             adjusted_advance(font, xmtx, long_metric_count, xvar, *id, coords, scale)
         }
         b"adjusted_sb" => adjusted_sb(font, xmtx, long_metric_count, xvar, *id, coords, scale),
         _ => return None,
-    }));
+    });
     Some(())
 }
 

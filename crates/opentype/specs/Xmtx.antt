@@ -2,7 +2,7 @@
 -- the last advance"). One rule for both directions: the caller gives the table's offset and hhea's or vhea's count of long records.
 use Rattle.std.specs.Prelude.{ℕ, ◌+◌, ◌-◌, ◌*◌, min, cond, not, ltb, eqb, ℤ}
 use Rattle.std.specs.Int.{w16}
-use Rattle.readers.specs.Reading.{Reading, Done, ◌>>=◌, ◌>>◌, check, unsigned_at, signed_at}
+use Rattle.readers.specs.Reading.{Reading, Done, ◌>>◌, check, unsigned_at, signed_at}
 
 -- "Refusals: 5 for no long records (the caller gives their count), first; 1 for an offset of 0; then 2."
 abbrev pub present : ℕ → ℕ → Reading Done

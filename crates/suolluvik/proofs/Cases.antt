@@ -1,5 +1,5 @@
 -- A measure in a vertical case: the case as the code has it, and what is answered. Assumes nothing.
-use mathlib.Core.Path.{◌≡◌, ap, sym, ◌∙◌}
+use mathlib.Core.Path.{◌≡◌, ap, ◌∙◌}
 use lib.Ieee.{Float}
 use Rattle.std.specs.Prelude.{Result, Ok, Err, IsOkAnd, MatchResult}
 use Rattle.readers.specs.Outcome.{Outcome, value}

@@ -1,7 +1,7 @@
 -- What an answer's value is seen as, beside the zero that stands for a refusal's. Assumes nothing.
 use mathlib.Core.Path.{◌≡◌, ap, ◌∙◌}
 use Rattle.std.specs.Prelude.{Result, Ok, Err}
-use Rattle.readers.specs.Outcome.{Outcome, value_or}
+use Rattle.readers.specs.Outcome.{value_or}
 use Rattle.readers.specs.Answers.{outcome_as, outcome}
 use Rattle.readers.specs.declared.Refusal.{Refusal}
 

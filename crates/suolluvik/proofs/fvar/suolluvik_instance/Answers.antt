@@ -6,7 +6,6 @@ use Rattle.std.specs.Option.{unwrap_or}
 use Rattle.std.specs.Int.{from_bool}
 use Rattle.std.proofs.Common.{Option, Some, None}
 use Rattle.readers.specs.Outcome.{value_or}
-use Rattle.readers.specs.Answers.{outcome_as}
 use Rattle.opentype.specs.Fvar.{Instance}
 use Rattle.axes.specs.FvarAnswers.{instance_of, name_of}
 use Rattle.suolluvik.specs.Fvar.{instance_in, no_instance, is_named, name_or_zero}

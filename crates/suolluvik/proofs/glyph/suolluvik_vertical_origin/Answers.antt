@@ -1,5 +1,5 @@
 -- `suolluvik::glyph::suolluvik_vertical_origin` meets its contract. Assumes nothing.
-use mathlib.Core.Path.{◌≡◌, ap, ap₂, ◌∙◌}
+use mathlib.Core.Path.{◌∙◌}
 use mir.ValLaws.{to_z-of_z}
 use borrow.Author.Rules.{rules}
 use Rattle.metrics.proofs.Floats.{zero_float}

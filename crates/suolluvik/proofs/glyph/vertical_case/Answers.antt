@@ -1,6 +1,6 @@
 -- `suolluvik::glyph::vertical_case` meets its contract. Assumes nothing.
 use native.Mathlib.Omega.{arith}
-use borrow.Author.Tests.{eq-eqb, ne_eqb}
+use borrow.Author.Tests.{ne_eqb}
 use Rattle.suolluvik.specs.Glyph.{vertical_case}
 use Rattle.suolluvik.proofs.glyph.vertical_case.Goals as goal
 

@@ -9,7 +9,7 @@ use lib.IntN.{ℤ}
 use mir.Syntax.{w16}
 use mir.Val.{to_z}
 use mir.ValLaws.{to_z-of_z}
-use Rattle.std.proofs.Common.{Option, Some, None}
+use Rattle.std.proofs.Common.{Option}
 use Rattle.readers.specs.Outcome.{Outcome, value, onward}
 use Rattle.readers.specs.Reading.{read_at, unsigned_at, signed_at, run}
 use Rattle.readers.proofs.Reading.{went_on, stopped, went_on_signed, stopped_signed, handed_on, passed, failed, answered}

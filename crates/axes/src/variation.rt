@@ -153,10 +153,9 @@ pub fn instance_coords(
         font,
         avar,
     };
-    let coord = |i| lent.value_coord(part, i);
     if count <= 32 {
-        few_coords(coord, count, out)
+        few_coords(|i| lent.value_coord(part, i), count, out)
     } else {
-        many_coords(coord, count, out)
+        many_coords(|i| lent.value_coord(part, i), count, out)
     }
 }

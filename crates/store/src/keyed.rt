@@ -56,6 +56,7 @@ impl Records {
         let wanted = key.number();
         let mut l: usize = 0;
         let mut h = self.count as usize;
+        // either end moves, which no `for` counts; std's search wants a slice of keys, in order
         while l < h {
             let i = (l + h) / 2;
             let at = self.table as usize + self.head as usize + i * (self.size as usize);

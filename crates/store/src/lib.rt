@@ -1,4 +1,5 @@
 // The item variation store and the tables that lead to it (swash's var.rs): HVAR and VVAR for a glyph's advance and bearing, MVAR for a font's measures.
+// Offsets become indexes by `as`, here and in the crates above: `usize` has no `From` for 32 bits, and the other terms of a sum are cast alike.
 #![tactic(auto)]
 
 pub mod item;

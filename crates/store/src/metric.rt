@@ -1,4 +1,5 @@
-// The delta of a glyph's advance or bearing, from HVAR or VVAR.
+// The delta of a glyph's advance or bearing, from HVAR or VVAR. Font, table, glyph and coordinates are handed over one by one, here and in the crates above, as swash does: over a struct
+// that holds references the theorems of one answer would have no plain statement (DECISIONS 49).
 ghost use Rattle.std.specs.Prelude.{◌≡◌, ◌+◌, ◌-◌, ◌*◌, ◌^◌, ◌<◌, ◌≤◌, min};
 ghost use Rattle.readers.specs.Reading.{run, unsigned_at};
 ghost use Rattle.readers.specs.Answers.{outcome, outcome_fixed};

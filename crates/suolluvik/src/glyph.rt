@@ -13,7 +13,7 @@ use metrics::glyph::{GlyphMetrics, materialize_glyph_metrics};
 use metrics::vertical::Vertical;
 use readers::Refusal;
 
-// A vertical case by its number. offset is VVAR's; of the synthesized case MVAR's.
+// A vertical case by its number, as C hands it. offset is VVAR's; of the synthesized case MVAR's.
 fn vertical_case(which: u8, offset: u32, advance: f32, origin: f32) -> Result<Vertical, Refusal>
     ensures { vertical_outcome result ≡ vertical_case which offset advance origin }
 {

@@ -95,7 +95,7 @@ impl VarAxis {
 }
 
 // A difference over a difference, with the sign changed below default. Where min, default and max are in order, neither has a sign and the
-// quotient is at most 1: then nothing is refused, and the division is all there is to do.
+// quotient is at most 1: then nothing is refused, and the division is all there is to do. The sign is asked for beside the differences, since it decides what is refused.
 fn fraction(below: bool, numerator: Fixed, denominator: Fixed) -> Result<Fixed, Refusal>
     ensures { outcome_fixed result ≡ fraction below numerator.0 denominator.0 }
 {

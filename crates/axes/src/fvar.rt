@@ -118,7 +118,7 @@ impl Fvar {
         Err(Refusal::Tag)
     }
 
-    // The same search as swash's variation.rs has it: it steps past an axis that cannot be read.
+    // The same search as swash's variation.rs has it, which has both (DECISIONS 14): it steps past an axis that cannot be read.
     pub fn find_by_tag(self, table: &[u8], tag: u32) -> Result<VarAxis, Refusal>
         ensures { axis_outcome result ≡ axis_by_tag table.now (header self) tag }
     {

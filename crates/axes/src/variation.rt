@@ -100,7 +100,7 @@ impl Lent<'_> {
     }
 }
 
-// The coordinates that settings give, tags[s] with values[s], in the first elements of out; answers how many. As in swash they are at most
+// The coordinates that settings give, tags[s] with values[s], two lists as C lends them, in the first elements of out; answers how many. As in swash they are at most
 // 32.
 pub fn normalized_coords(
     fvar: Fvar,
@@ -153,6 +153,7 @@ pub fn instance_coords(
         font,
         avar,
     };
+    // a closure each: with one for both `few_coords` is not drawn in (measured: DECISIONS 138)
     if count <= 32 {
         few_coords(|i| lent.value_coord(part, i), count, out)
     } else {

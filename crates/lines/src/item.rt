@@ -56,7 +56,6 @@ impl Row {
         })
     }
 
-    // Where it ends.
     fn end(self) -> usize
         ensures { result ≡ self.start + (self.count + self.word_count) }
     {

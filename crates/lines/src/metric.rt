@@ -92,7 +92,7 @@ pub fn metric_delta_with(
     item_delta_with(font, place.store, place.outer, place.inner, scalars)
 }
 
-// The delta of an advance, as an answer and as a float.
+// The delta of an advance, as an answer and as a float: a name each, as swash has them.
 pub fn advance_delta_fixed_with(
     font: &[u8],
     xvar: u32,

@@ -16,7 +16,7 @@ use std::io::{Read, Write};
 // An input of more bytes is too long. One byte more is read, to know.
 const MOST: usize = 65_536;
 
-const LOOK: usize = 65_537;
+const LOOK: usize = MOST + 1;
 
 // Room for any listing: the counts and 65,535 axes, at most 64 bytes each. An array and a position, and no `ArrayVec`: handed over by
 // value, one of this size overran a stack of 8 MiB (tried).

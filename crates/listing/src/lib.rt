@@ -52,7 +52,7 @@ pub fn axis_line(axis: Axis) -> Line
     line
 }
 
-// An axis that is refused, with the refusal's number.
+// An axis that is refused, with the refusal's number: this crate knows no fonts and no refusals.
 pub fn refused_line(index: u16, number: u8) -> Line
     ensures { result.items ≡ refused_line index number }
 {

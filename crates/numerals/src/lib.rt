@@ -17,7 +17,7 @@ pub fn digit(byte: u8) -> Option<u8>
     }
 }
 
-// One digit or more, whose value is below 2^32.
+// One digit or more, whose value is below 2^32. Not `from_str_radix`, which takes a plus and capitals.
 fn digits(text: &[u8], base: u32) -> Option<u32>
     ensures { result ≡ number_in base text.now }
 {

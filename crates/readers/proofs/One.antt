@@ -17,6 +17,14 @@ use denote.RattleType.{RattleType}
 use denote.Param.Laws.{Laws}
 use mir.Syntax.{Dict}
 use Rattle.readers.proofs.U8FromRefusal.from.Reads as number
+use Rattle.readers.proofs.U8FromBeData.from_be_data.Reads as u8
+use Rattle.readers.proofs.I8FromBeData.from_be_data.Reads as i8
+use Rattle.readers.proofs.U16FromBeData.from_be_data.Reads as u16
+use Rattle.readers.proofs.I16FromBeData.from_be_data.Reads as i16
+use Rattle.readers.proofs.U24FromBeData.from_be_data.Reads as u24
+use Rattle.readers.proofs.U32FromBeData.from_be_data.Reads as u32
+use Rattle.readers.proofs.F2Dot14FromBeData.from_be_data.Reads as f2dot14
+use Rattle.readers.proofs.FixedFromBeData.from_be_data.Reads as fixed
 use Rattle.readers.proofs.read.Reads as read
 
 -- The refusal that has a number.
@@ -70,3 +78,27 @@ number_one κs a r r' s s' p q = p ∙ sym q
 -- Of every type that a font's bytes can make.
 pub read_one : (T : RattleType) (laws : Laws T) (number : Ghosts T.Denot) (code : Dict) → One (read.Post T laws number code)
 read_one T laws number code κs a r r' s s' p q = one_plain p q
+
+pub u8_from_be_data_one : One u8.Post
+u8_from_be_data_one κs a r r' s s' p q = p ∙ sym q
+
+pub i8_from_be_data_one : One i8.Post
+i8_from_be_data_one κs a r r' s s' p q = p ∙ sym q
+
+pub u16_from_be_data_one : One u16.Post
+u16_from_be_data_one κs a r r' s s' p q = p ∙ sym q
+
+pub i16_from_be_data_one : One i16.Post
+i16_from_be_data_one κs a r r' s s' p q = p ∙ sym q
+
+pub u24_from_be_data_one : One u24.Post
+u24_from_be_data_one κs a r r' s s' p q = p ∙ sym q
+
+pub u32_from_be_data_one : One u32.Post
+u32_from_be_data_one κs a r r' s s' p q = p ∙ sym q
+
+pub f2dot14_from_be_data_one : One f2dot14.Post
+f2dot14_from_be_data_one κs a r r' s s' p q = p ∙ sym q
+
+pub fixed_from_be_data_one : One fixed.Post
+fixed_from_be_data_one κs a r r' s s' p q = p ∙ sym q

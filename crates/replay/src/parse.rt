@@ -109,7 +109,7 @@ pub(crate) fn bytes(text: &[u8]) -> Option<Bytes> {
     Some(bytes)
 }
 
-// The byte with two hexadecimal digits.
+// The byte with two hexadecimal digits. (`hex` takes capitals too.)
 fn octet(high: u8, low: u8) -> Option<u8> {
     Some(16 * numerals::digit(high)? + numerals::digit(low)?)
 }

@@ -43,7 +43,6 @@ impl Output {
         self.waiting.clear()
     }
 
-    // Writes out what waits.
     pub(crate) fn flush(&mut self) -> io::Result<()> {
         self.write_out();
         self.written
@@ -98,7 +97,7 @@ impl Output {
     }
 }
 
-// What has a text in an answer.
+// What has a text in an answer. Not `Display`: `write!` answers an error, and here none can be.
 pub(crate) trait Print {
     fn print(self, out: &mut Output);
 }

@@ -97,7 +97,7 @@ fn delta_at(font: &[u8], row: usize, word_count: u16, k: u16) -> Result<i16, Ref
     Ok(i16::from(delta))
 }
 
-// The scalar of a region of the list at an offset from a store. A row's sum has the list's numbers at hand, and does without.
+// The scalar of a region of the list at an offset from a store. A row's sum has the list's numbers at hand, and calls `region_scalar` itself.
 pub fn scalar_in(
     font: &[u8],
     store: u32,

@@ -82,7 +82,7 @@ pub fn mvar_delta<'a>(
     Mvar::new(font, mvar, coords)?.read_delta(tag)
 }
 
-// Metrics variation table, opened: it keeps the part of the font and the coordinates together. Whatever its fields hold, each method has one answer.
+// Metrics variation table, opened, with swash's fields: it keeps the part of the font and the coordinates together. Whatever its fields hold, each method has one answer.
 #[derive(Clone, Copy)]
 pub struct Mvar<'a> {
     pub data: &'a [u8],

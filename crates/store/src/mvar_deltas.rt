@@ -1,4 +1,5 @@
 // The deltas that shift a font's measures.
+
 // Which deltas are asked for.
 #[derive(Clone, Copy)]
 pub enum Wanted {

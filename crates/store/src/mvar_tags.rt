@@ -1,4 +1,4 @@
-// Tags for metrics from the MVAR table, as the four letters make a 32-bit number.
+// Tags for metrics from the MVAR table, as the four letters make a 32-bit number. A constant can't call `from_be_bytes`, so the letters stand beside it.
 
 // Horizontal ascender.
 pub const HASC: u32 = 0x6861_7363; // hasc

@@ -5,24 +5,16 @@ use native.Mathlib.Omega.{arith}
 use borrow.Author.Tests.{ltb-true, ltb-false, eq-eqb, ne_eqb}
 use lib.Dec.{eqb, ltb}
 use lib.IntN.{ℤ, pos, negsuc}
-use lib.Signed.{lt_z}
 use Rattle.std.proofs.Common.{Less, Equal, Greater, is_eq, is_lt, is_gt, int_cmp, int_eq}
 use Rattle.std.specs.Ordering.{ord_clamp}
 use Rattle.numbers.specs.declared.Fixed.{Fixed}
 use Rattle.numbers.specs.Numbers.{is_neg, greater}
+use Rattle.numbers.proofs.Order.{below}
 use Rattle.axes.proofs.Quotient.{neg_test}
 use Rattle.opentype.specs.Axis.{is_least, held}
 
-less_by : (a b : Bool) → is_lt (cond a Less (cond b Greater Equal)) ≡ a
-less_by true b = refl
-less_by false true = refl
-less_by false false = refl
-
-pub less : (a b : ℤ) → is_lt (int_cmp a b) ≡ lt_z a b
-less a b = less_by (lt_z a b) (lt_z b a)
-
 pub negative : (x : ℤ) → is_lt (int_cmp x (pos 0)) ≡ is_neg x
-negative x = less x (pos 0) ∙ neg_test x
+negative x = below x (pos 0) ∙ neg_test x
 
 pub least : (x : ℤ) → int_eq x (negsuc 0x7fff_ffff) ≡ is_least x
 least (pos n) = refl

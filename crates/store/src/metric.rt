@@ -53,11 +53,7 @@ pub fn store_of(font: &[u8], base: u32) -> Result<u32, Refusal>
     if offset == 0 {
         return Err(Refusal::Absent);
     }
-    let store = (offset as u64) + (base as u64);
-    if store >= 0x1_0000_0000 {
-        return Err(Refusal::Arithmetic);
-    }
-    Ok(store as u32)
+    offset.checked_add(base).ok_or(Refusal::Arithmetic)
 }
 
 // Entry `index` of the entries at a position, each of `size` bytes.

@@ -3,7 +3,7 @@ ghost use Rattle.std.specs.Prelude.{◌≡◌, ◌+◌, ◌*◌, ◌^◌, ◌<�
 ghost use Rattle.readers.specs.Reading.{run};
 ghost use Rattle.readers.specs.Answers.{outcome_fixed};
 ghost use Rattle.opentype.specs.Region.{coordinate, skipped, difference, tent, tent_at, region_scalar};
-ghost use Rattle.store.specs.RegionAnswers.{triple, tent_of, axis_outcome};
+ghost use Rattle.store.specs.RegionAnswers.{triple_of, tent_of, axis_outcome};
 
 use numbers::{F2Dot14, Fixed};
 use readers::{FromBeData, Refusal};
@@ -18,13 +18,6 @@ fn coordinate(coords: &[i16], axis: usize) -> F2Dot14
     }
 }
 
-fn skipped(start: F2Dot14, peak: F2Dot14, end: F2Dot14) -> bool
-    ensures { result ≡ skipped (triple start peak end) }
-{
-    let zero = F2Dot14::ZERO;
-    peak < start || end < peak || peak == zero || (start < zero && zero < end)
-}
-
 // a - b, by the 16.16 minus.
 fn difference(a: F2Dot14, b: F2Dot14) -> Fixed
     ensures { result.0 ≡ difference a.0 b.0 }
@@ -32,29 +25,46 @@ fn difference(a: F2Dot14, b: F2Dot14) -> Fixed
     Fixed::from(a) - Fixed::from(b)
 }
 
-// What a triple makes of a scalar; nothing where the coordinate is outside.
-fn under_triple(
+// Where one axis of a region begins, peaks and ends.
+#[derive(Clone, Copy)]
+struct Triple {
     start: F2Dot14,
     peak: F2Dot14,
     end: F2Dot14,
-    c: F2Dot14,
-    scalar: Fixed,
-) -> Option<Fixed>
-    ensures { tent_of result ≡ tent (triple start peak end) c.0 scalar.0 }
-{
-    if skipped(start, peak, end) {
-        return Some(scalar);
+}
+
+impl Triple {
+    fn skipped(self) -> bool
+        ensures { result ≡ skipped (triple_of self) }
+    {
+        let zero = F2Dot14::ZERO;
+        self.peak < self.start
+            || self.end < self.peak
+            || self.peak == zero
+            || (self.start < zero && zero < self.end)
     }
-    if c < start || end < c {
-        return None;
+
+    // What it makes of a scalar; nothing where the coordinate is outside.
+    fn tent(self, c: F2Dot14, scalar: Fixed) -> Option<Fixed>
+        ensures { tent_of result ≡ tent (triple_of self) c.0 scalar.0 }
+    {
+        if self.skipped() {
+            return Some(scalar);
+        }
+        if c < self.start || self.end < c {
+            return None;
+        }
+        if c == self.peak {
+            return Some(scalar);
+        }
+        if c < self.peak {
+            return Some(scalar.scaled(
+                difference(c, self.start),
+                difference(self.peak, self.start),
+            ));
+        }
+        Some(scalar.scaled(difference(self.end, c), difference(self.end, self.peak)))
     }
-    if c == peak {
-        return Some(scalar);
-    }
-    if c < peak {
-        return Some(scalar.scaled(difference(c, start), difference(peak, start)));
-    }
-    Some(scalar.scaled(difference(end, c), difference(end, peak)))
 }
 
 // The scalar after the triple at a position, whose six bytes are tested once.
@@ -65,10 +75,12 @@ fn axis_at(font: &[u8], at: usize, c: F2Dot14, scalar: Fixed) -> Result<Option<F
     if font.len() < at + 6 {
         return Err(Refusal::Short);
     }
-    let start = F2Dot14::from_be_data(font, at);
-    let peak = F2Dot14::from_be_data(font, at + 2);
-    let end = F2Dot14::from_be_data(font, at + 4);
-    Ok(under_triple(start, peak, end, c, scalar))
+    let triple = Triple {
+        start: F2Dot14::from_be_data(font, at),
+        peak: F2Dot14::from_be_data(font, at + 2),
+        end: F2Dot14::from_be_data(font, at + 4),
+    };
+    Ok(triple.tent(c, scalar))
 }
 
 // The scalar of a region of the list whose regions start at a position: outside one of its triples it is 0, and the rest is not read.

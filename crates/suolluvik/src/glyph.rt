@@ -171,6 +171,7 @@ pub extern "C" fn suolluvik_vertical_origin(
     answered(origin, 0.0, value)
 }
 
+// One each for advance and origin, as the two clauses below have them.
 fn advance_or(given: f32, vertical: Vertical) -> f32
     ensures { result ≡ advance_or given (vertical_of vertical) }
 {

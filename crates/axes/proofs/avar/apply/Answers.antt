@@ -6,7 +6,7 @@ use Rattle.readers.proofs.Reading.{chosen, otherwise, answered}
 use Rattle.readers.proofs.Walk.{run_turned, run_ended}
 use Rattle.opentype.specs.Avar.{pair_turn, no_pair, applied}
 use Rattle.axes.proofs.Maps.{took_value}
-use Rattle.axes.proofs.Order.{less}
+use Rattle.numbers.proofs.Order.{below}
 use Rattle.axes.proofs.avar.apply.Goals as goal
 
 pub loop-k-init : goal.loop-k-init
@@ -18,15 +18,15 @@ unfolding pair_turn
 loop-k-preserved c =
     run_turned _ _ _ _ _ _ _ _ c.loop-k.invariant c.loop-k-test.true
     (took_value _ _ _ _ (rw c.from.ensures at c.pair_at-pair.ensures)
-    (chosen _ _ _ _ _ (sym (rw less at c.if-lt.ensures)) refl))
+    (chosen _ _ _ _ _ (sym (rw below at c.if-lt.ensures)) refl))
 
 pub returns-then-k-eq0 : goal.returns-then-k-eq0
 unfolding pair_turn
 returns-then-k-eq0 c =
     run_turned _ _ _ _ _ _ _ _ c.loop-k.invariant c.loop-k-test.true
     (took_value _ _ _ _ (rw c.from.ensures at c.pair_at-pair.ensures)
-    (otherwise _ _ _ _ _ (sym (rw less at c.if-lt.ensures))
-    (chosen _ _ _ _ _ (sym (rw less at c.if-lt-2.ensures))
+    (otherwise _ _ _ _ _ (sym (rw below at c.if-lt.ensures))
+    (chosen _ _ _ _ _ (sym (rw below at c.if-lt-2.ensures))
     (chosen _ _ _ _ _ (eq-eqb _ _ c.if-k-eq0.true) (answered _ _)))))
 
 pub returns-then-lt-2 : goal.returns-then-lt-2
@@ -34,8 +34,8 @@ unfolding pair_turn
 returns-then-lt-2 c =
     run_turned _ _ _ _ _ _ _ _ c.loop-k.invariant c.loop-k-test.true
     (took_value _ _ _ _ (rw c.from.ensures at c.pair_at-pair.ensures)
-    (otherwise _ _ _ _ _ (sym (rw less at c.if-lt.ensures))
-    (chosen _ _ _ _ _ (sym (rw less at c.if-lt-2.ensures))
+    (otherwise _ _ _ _ _ (sym (rw below at c.if-lt.ensures))
+    (chosen _ _ _ _ _ (sym (rw below at c.if-lt-2.ensures))
     (otherwise _ _ _ _ _ (ne_eqb _ _ c.if-k-eq0.false) (ap value c.between.ensures ∙ answered _ _)))))
 
 pub returns-else-lt-2 : goal.returns-else-lt-2
@@ -43,8 +43,8 @@ unfolding pair_turn
 returns-else-lt-2 c =
     run_turned _ _ _ _ _ _ _ _ c.loop-k.invariant c.loop-k-test.true
     (took_value _ _ _ _ (rw c.from.ensures at c.pair_at-pair.ensures)
-    (otherwise _ _ _ _ _ (sym (rw less at c.if-lt.ensures))
-    (otherwise _ _ _ _ _ (sym (rw less at c.if-lt-2.ensures)) (answered _ _))))
+    (otherwise _ _ _ _ _ (sym (rw below at c.if-lt.ensures))
+    (otherwise _ _ _ _ _ (sym (rw below at c.if-lt-2.ensures)) (answered _ _))))
 
 pub returns : goal.returns
 returns c = run_ended _ _ _ _ _ _ _ _ c.loop-k.invariant c.loop-k-test.false (answered _ _)

@@ -14,4 +14,4 @@ pub returns : goal.returns
 unfolding tent_at
 returns c =
     triple_there _ _ _ _ c.if-font-at.false
-    (rw (c.from_be_data-start.ensures, c.from_be_data-peak.ensures, c.from_be_data-end.ensures) at (ap value c.under_triple.ensures) ∙ answered _ _)
+    (rw (c.from_be_data.ensures, c.from_be_data-2.ensures, c.from_be_data-3.ensures) at (ap value c.tent.ensures) ∙ answered _ _)

@@ -1,6 +1,6 @@
 // Coordinate lists: from settings, and for an instance (swash's variation.rs). A public function takes the header and its table, the font and its
 // avar one by one: over a `Lent`, which holds references, the theorems of one answer (`proofs/VariationOne.antt`) would have no plain statement.
-ghost use Rattle.std.specs.Prelude.{◌≡◌, ◌≤◌, ℕ, ℤ, length};
+ghost use Rattle.std.specs.Prelude.{◌≡◌, ◌<◌, ◌≤◌, ℕ, ℤ, length, set};
 ghost use Rattle.readers.specs.Outcome.{Outcome};
 ghost use Rattle.readers.specs.Answers.{outcome, outcome_f2_dot14};
 ghost use Rattle.opentype.specs.Variation.{passed, coords_in, axis_coord, setting_coord, settings_count, settings_coords, value_coord, instance_count, instance_coords};
@@ -11,6 +11,15 @@ use crate::axis::VarAxis;
 use crate::fvar::{Fvar, value_or_zero};
 use numbers::{F2Dot14, Fixed};
 use readers::Refusal;
+
+// A call of its own: drawn in, the compiler fills the zeros that no settings give by `memset`, and whoever links the library would have to have that too.
+#[inline(never)]
+fn put_coord(coords: &mut [i16; 32], i: u16, coord: F2Dot14)
+    requires { i < 32 }
+    ensures { coords.new ≡ set coords.old i coord.0 }
+{
+    coords[usize::from(i)] = coord.0;
+}
 
 // The coordinates of the first count axes, at most 32, in the first elements of out; answers how many. They wait in a list of their own
 // until none is refused, and none is worked out twice.
@@ -27,7 +36,8 @@ fn few_coords<F: Fn(u16) -> Result<F2Dot14, Refusal>>(
 {
     let mut coords = [0i16; 32];
     for i in 0..count {
-        coords[usize::from(i)] = coord(i)?.0;
+        let c = coord(i)?;
+        put_coord(&mut coords, i, c);
     }
     let len = usize::from(count);
     out[..len].copy_from_slice(&coords[..len]);

@@ -1,11 +1,9 @@
 -- `axes::variation::few_coords` meets its contract. The loop's invariant: the coordinates that are left give the count, and the list has those so far.
 -- Assumes nothing.
 use Prim.Native.Nat.{ℕ}
-use mathlib.Core.Path.{◌≡◌, refl, sym, ◌∙◌}
+use mathlib.Core.Path.{◌≡◌, refl, sym}
 use native.Mathlib.Omega.{arith}
 use lib.IntN.{ℤ}
-use mir.Syntax.{w16}
-use mir.ValLaws.{to_z-of_z}
 use Rattle.readers.specs.Outcome.{Outcome, value}
 use Rattle.readers.specs.Answers.{refusal}
 use Rattle.readers.proofs.Walk.{turned, ended}
@@ -21,11 +19,11 @@ pub loop-i-init : goal.loop-i-init
 unfolding passed
 loop-i-init g c = λ of h. (refl, sym (fill_none _ _))
 
-pub returns-in_err-coords : goal.returns-in_err-coords
+pub returns-in_err-c : goal.returns-in_err-c
 unfolding coords_in coord_turn
-returns-in_err-coords g c =
-    let e : (of : ℕ → Outcome ℤ) → Answers (given.F-post g c.args.coord) of → refusal c.in_err-coords.field-0.0 ≡ passed of c.args.count =
-    λ of h. turned _ _ _ _ _ _ _ (c.loop-i.invariant of h).0 c.loop-i-test.true (halt_coord _ _ (h _ _ c.coord.ensures) c.in_err-coords.was) in
+returns-in_err-c g c =
+    let e : (of : ℕ → Outcome ℤ) → Answers (given.F-post g c.args.coord) of → refusal c.in_err-c.field-0.0 ≡ passed of c.args.count =
+    λ of h. turned _ _ _ _ _ _ _ (c.loop-i.invariant of h).0 c.loop-i-test.true (halt_coord _ _ (h _ _ c.coord.ensures) c.in_err-c.was) in
     record {
       count = λ of h. rw (exited _ c.from_residual.ensures.1) (e of h);
       list = λ of h. rw (← e of h);
@@ -36,8 +34,8 @@ unfolding coord_turn
 loop-i-preserved g c = λ of h.
     let so_far = c.loop-i.invariant of h in
     let at = h _ _ c.coord.ensures in (
-      turned _ _ _ _ _ _ _ so_far.0 c.loop-i-test.true (onward_coord _ _ _ at c.in_ok-coords.was refl),
-      rw c.from.ensures (fill_more _ _ _ _ _ so_far.1 (to_z-of_z w16 _ (record { sfits = omega arith }) ∙ coord_is at c.in_ok-coords.was)),
+      turned _ _ _ _ _ _ _ so_far.0 c.loop-i-test.true (onward_coord _ _ _ at c.in_ok-c.was refl),
+      rw c.put_coord.ensures (fill_more _ _ _ _ _ so_far.1 (coord_is at c.in_ok-c.was)),
     )
 
 pub returns : goal.returns

@@ -1,39 +1,47 @@
 // Cases of normalising and of coordinate lists. A font and the avar's offset in it are a case's last two
 // words; without these it has no avar, which is an offset of 0.
-use crate::parse::{Bytes, bits, bytes, fixed, float, index, list, natural, room};
+use crate::parse::{Bytes, Rooms, bits, bytes, fixed, float, index, list, natural, room};
 use crate::print::Output;
-use arrayvec::ArrayVec;
 use axes::avar::adjust_axis;
 use axes::axis::VarAxis;
 use axes::fvar::Fvar;
 use axes::variation::{instance_coords, normalized_coords};
 
-#[derive(Drop)]
-struct Avar {
-    font: Bytes,
+#[derive(Clone, Copy)]
+struct Avar<'a> {
+    font: &'a [u8],
     offset: u32,
 }
 
-impl Avar {
-    fn none() -> Avar {
+impl<'a> Avar<'a> {
+    fn none() -> Avar<'a> {
         Avar {
-            font: ArrayVec::new(),
+            font: b"",
             offset: 0,
         }
     }
 
-    fn read(font: &[u8], offset: &[u8]) -> Option<Avar> {
+    fn read(font: &[u8], offset: &[u8], room: &'a mut Bytes) -> Option<Avar<'a>> {
         Some(Avar {
             offset: natural(offset)?,
-            font: bytes(font)?,
+            font: bytes(font, room)?,
         })
     }
 
     // The last words of a case that may be without.
-    fn read_any(words: &[&[u8]]) -> Option<Avar> {
+    fn read_any(words: &[&[u8]], room: &'a mut Bytes) -> Option<Avar<'a>> {
         match words {
             [] => Some(Avar::none()),
-            [font, offset] => Avar::read(font, offset),
+            [font, offset] => Avar::read(font, offset, room),
+            _ => None,
+        }
+    }
+
+    // The same with an axis's index before it, which is 0 without.
+    fn read_of_axis(words: &[&[u8]], room: &'a mut Bytes) -> Option<(u16, Avar<'a>)> {
+        match words {
+            [] => Some((0, Avar::none())),
+            [axis, font, offset] => Some((index(axis)?, Avar::read(font, offset, room)?)),
             _ => None,
         }
     }
@@ -42,35 +50,31 @@ impl Avar {
 // Stands where no coordinate was written: none is the largest 2.14 number but by an avar.
 const MARK: i16 = i16::MAX;
 
-pub(crate) fn answer(words: &[&[u8]], out: &mut Output) -> Option<()> {
+pub(crate) fn answer(words: &[&[u8]], rooms: &mut Rooms, out: &mut Output) -> Option<()> {
     match words {
-        [b"adjust_axis", words @ ..] => put_adjusted(words, out),
-        [b"normalized_coord", words @ ..] => put_coord(words, out),
-        [b"normalized_coords", words @ ..] => put_settings(words, out),
-        [b"instance_coords", words @ ..] => put_instance(words, out),
+        [b"adjust_axis", words @ ..] => put_adjusted(words, rooms, out),
+        [b"normalized_coord", words @ ..] => put_coord(words, rooms, out),
+        [b"normalized_coords", words @ ..] => put_settings(words, rooms, out),
+        [b"instance_coords", words @ ..] => put_instance(words, rooms, out),
         _ => None,
     }
 }
 
-fn put_adjusted(words: &[&[u8]], out: &mut Output) -> Option<()> {
+fn put_adjusted(words: &[&[u8]], rooms: &mut Rooms, out: &mut Output) -> Option<()> {
     let [axis, value, font, offset] = words else {
         return None;
     };
     let (axis, value) = (index(axis)?, fixed(value)?);
-    let avar = Avar::read(font, offset)?;
-    out.value(adjust_axis(&avar.font, avar.offset, axis, value));
+    let avar = Avar::read(font, offset, &mut rooms.font)?;
+    out.value(adjust_axis(avar.font, avar.offset, axis, value));
     Some(())
 }
 
-fn put_coord(words: &[&[u8]], out: &mut Output) -> Option<()> {
+fn put_coord(words: &[&[u8]], rooms: &mut Rooms, out: &mut Output) -> Option<()> {
     let [min, default, max, value, others @ ..] = words else {
         return None;
     };
-    let (index, avar) = match others {
-        [] => (0, Avar::none()),
-        [axis, font, offset] => (index(axis)?, Avar::read(font, offset)?),
-        _ => return None,
-    };
+    let (index, avar) = Avar::read_of_axis(others, &mut rooms.font)?;
     let axis = VarAxis {
         index,
         tag: 0,
@@ -80,22 +84,23 @@ fn put_coord(words: &[&[u8]], out: &mut Output) -> Option<()> {
         default: fixed(default)?,
         max: fixed(max)?,
     };
-    let coord = axis.normalized_coord(fixed(value)?, &avar.font, avar.offset);
+    let coord = axis.normalized_coord(fixed(value)?, avar.font, avar.offset);
     out.put(coord);
     Some(())
 }
 
-fn put_settings(words: &[&[u8]], out: &mut Output) -> Option<()> {
+fn put_settings(words: &[&[u8]], rooms: &mut Rooms, out: &mut Output) -> Option<()> {
     let [table, tags, values, size, avar @ ..] = words else {
         return None;
     };
     let mut coords = room(size, MARK)?;
     let (tags, values) = (list(tags, bits)?, list(values, float)?);
-    let (table, avar) = (bytes(table)?, Avar::read_any(avar)?);
+    let table = bytes(table, &mut rooms.table)?;
+    let avar = Avar::read_any(avar, &mut rooms.font)?;
     out.put(normalized_coords(
-        Fvar::new(&table),
-        &table,
-        &avar.font,
+        Fvar::new(table),
+        table,
+        avar.font,
         avar.offset,
         &tags,
         &values,
@@ -105,17 +110,18 @@ fn put_settings(words: &[&[u8]], out: &mut Output) -> Option<()> {
     Some(())
 }
 
-fn put_instance(words: &[&[u8]], out: &mut Output) -> Option<()> {
+fn put_instance(words: &[&[u8]], rooms: &mut Rooms, out: &mut Output) -> Option<()> {
     let [table, i, size, avar @ ..] = words else {
         return None;
     };
     let i = index(i)?;
     let mut coords = room(size, MARK)?;
-    let (table, avar) = (bytes(table)?, Avar::read_any(avar)?);
+    let table = bytes(table, &mut rooms.table)?;
+    let avar = Avar::read_any(avar, &mut rooms.font)?;
     out.put(instance_coords(
-        Fvar::new(&table),
-        &table,
-        &avar.font,
+        Fvar::new(table),
+        table,
+        avar.font,
         avar.offset,
         i,
         &mut coords,

@@ -1,25 +1,25 @@
 // Cases of the item variation store, of a glyph's deltas and of MVAR, and its tags.
-use crate::parse::{Place, bits, bytes, index, natural};
+use crate::parse::{Place, Rooms, bits, bytes, index, natural};
 use crate::print::{Output, Print};
 use store::metric::float_of;
 use store::mvar::Header;
 use store::mvar_tags::*;
 use store::{item, metric, mvar};
 
-pub(crate) fn answer(words: &[&[u8]], out: &mut Output) -> Option<()> {
+pub(crate) fn answer(words: &[&[u8]], rooms: &mut Rooms, out: &mut Output) -> Option<()> {
     match words {
         [b"mvar_tags"] => put_tags(out),
         [b"mvar_new", font, offset] => {
             let offset = natural(offset)?;
-            out.put(mvar::mvar_header(&bytes(font)?, offset))
+            out.put(mvar::mvar_header(bytes(font, &mut rooms.font)?, offset))
         }
         [b"item_delta", font, store, outer, inner, coords] => {
             let (outer, inner) = (natural(outer)?, index(inner)?);
-            let at = Place::read(font, store, coords)?;
-            out.put(item::item_delta(&at.font, at.offset, outer, inner, &at.coords))
+            let at = Place::read(font, store, coords, rooms)?;
+            out.put(item::item_delta(at.font, at.offset, outer, inner, &at.coords))
         }
         [name, font, offset, what, coords] => {
-            return put_delta(name, &Place::read(font, offset, coords)?, what, out);
+            return put_delta(name, &Place::read(font, offset, coords, rooms)?, what, out);
         }
         _ => return None,
     }

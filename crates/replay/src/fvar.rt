@@ -1,13 +1,13 @@
 // Cases of fvar: the header, axes, instances and their values.
-use crate::parse::{bits, bytes, index, room};
+use crate::parse::{Rooms, bits, bytes, index, room};
 use crate::print::{Bits, Output, Print};
 use axes::axis::VarAxis;
 use axes::fvar::{Fvar, VarInstance};
 
-pub(crate) fn answer(words: &[&[u8]], out: &mut Output) -> Option<()> {
+pub(crate) fn answer(words: &[&[u8]], rooms: &mut Rooms, out: &mut Output) -> Option<()> {
     match words {
         [b"header", table] => {
-            let fvar = Fvar::new(&bytes(table)?);
+            let fvar = Fvar::new(bytes(table, &mut rooms.table)?);
             let numbers = [
                 fvar.axis_offset,
                 fvar.axis_count,
@@ -17,14 +17,16 @@ pub(crate) fn answer(words: &[&[u8]], out: &mut Output) -> Option<()> {
             ];
             out.values(&numbers)
         }
-        [name, table, what] => return of_table(name, &bytes(table)?, what, out),
+        [name, table, what] => {
+            return of_table(name, bytes(table, &mut rooms.table)?, what, out);
+        }
         // the largest float stands where none was written: no 16.16 number has it
         [b"instance_floats", table, i, size] => {
             let i = index(i)?;
             let mut floats = room(size, f32::MAX)?;
-            let table = bytes(table)?;
-            let fvar = Fvar::new(&table);
-            out.put(fvar.instance_floats(&table, i, &mut floats));
+            let table = bytes(table, &mut rooms.table)?;
+            let fvar = Fvar::new(table);
+            out.put(fvar.instance_floats(table, i, &mut floats));
             out.list(&floats)
         }
         _ => return None,

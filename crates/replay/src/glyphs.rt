@@ -1,5 +1,5 @@
 // Cases of a glyph's advances, bearings and vertical origin.
-use crate::parse::{Bytes, List, bits, bytes, flag, float, half, halves, index, list, natural};
+use crate::parse::{List, Rooms, bits, bytes, flag, float, half, halves, index, list, natural};
 use crate::print::Output;
 use metrics::glyph;
 use metrics::glyph::GlyphMetrics;
@@ -7,28 +7,33 @@ use metrics::vertical::Vertical;
 
 // A glyph of a font at some coordinates.
 #[derive(Drop)]
-pub(crate) struct Glyph {
-    pub(crate) font: Bytes,
+pub(crate) struct Glyph<'a> {
+    pub(crate) font: &'a [u8],
     pub(crate) id: u16,
     pub(crate) coords: List<i16>,
 }
 
-impl Glyph {
-    pub(crate) fn read(font: &[u8], id: &[u8], coords: &[u8]) -> Option<Glyph> {
+impl<'a> Glyph<'a> {
+    pub(crate) fn read(
+        font: &[u8],
+        id: &[u8],
+        coords: &[u8],
+        rooms: &'a mut Rooms,
+    ) -> Option<Glyph<'a>> {
         Some(Glyph {
             id: index(id)?,
             coords: halves(coords)?,
-            font: bytes(font)?,
+            font: bytes(font, &mut rooms.font)?,
         })
     }
 
     // The glyph metrics at its coordinates, in a scale.
     pub(crate) fn scaled(&self, m: GlyphMetrics, scale: f32) -> GlyphMetrics {
-        glyph::materialize_glyph_metrics(m, &self.font, &self.coords).linear_scale(scale)
+        glyph::materialize_glyph_metrics(m, self.font, &self.coords).linear_scale(scale)
     }
 }
 
-pub(crate) fn answer(words: &[&[u8]], out: &mut Output) -> Option<()> {
+pub(crate) fn answer(words: &[&[u8]], rooms: &mut Rooms, out: &mut Output) -> Option<()> {
     match words {
         [b"has_vertical_metrics", vertical] => {
             out.value(upright(vertical, 0)?.has_vertical_metrics())
@@ -44,13 +49,13 @@ pub(crate) fn answer(words: &[&[u8]], out: &mut Output) -> Option<()> {
         [name, font, tables, id, coords, unvaried, scale] => {
             let m = without_scale(name, tables)?;
             let scale = float(scale)?;
-            let glyph = Glyph::read(font, id, coords)?;
+            let glyph = Glyph::read(font, id, coords, rooms)?;
             return put_measure(name, glyph.scaled(m, scale), &glyph, unvaried, out);
         }
         [b"vertical_origin", font, tables, id, coords, numbers @ ..] => {
             let origin = Origin::read(numbers)?;
             let m = upright(tables, origin.units_per_em)?;
-            origin.put(m, &Glyph::read(font, id, coords)?, out)
+            origin.put(m, &Glyph::read(font, id, coords, rooms)?, out)
         }
         _ => return None,
     }
@@ -120,7 +125,7 @@ impl Origin {
     fn put(self, m: GlyphMetrics, glyph: &Glyph, out: &mut Output) {
         out.value(
             glyph.scaled(m, self.scale).vertical_origin(
-                &glyph.font,
+                glyph.font,
                 glyph.id,
                 &glyph.coords,
                 self.bearing,

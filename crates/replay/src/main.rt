@@ -15,6 +15,7 @@ mod tables;
 mod words;
 
 use arrayvec::ArrayVec;
+use parse::Rooms;
 use print::Output;
 use std::io::Read;
 use std::{array, io};
@@ -24,8 +25,8 @@ use words::{count, word};
 type Line = ArrayVec<u8, 65536>;
 
 // Answers the line. What is no case is answered by a question mark.
-fn answer(line: &[u8], out: &mut Output) {
-    if answer_case(line, out).is_none() {
+fn answer(line: &[u8], rooms: &mut Rooms, out: &mut Output) {
+    if answer_case(line, rooms, out).is_none() {
         out.byte(b'?')
     }
     out.byte(b'\n')
@@ -33,29 +34,33 @@ fn answer(line: &[u8], out: &mut Output) {
 
 // Each module that answers cases is asked, until one knows the case and can read it: nothing is put before
 // all of a case is read. No case has more than ten words.
-fn answer_case(line: &[u8], out: &mut Output) -> Option<()> {
+fn answer_case(line: &[u8], rooms: &mut Rooms, out: &mut Output) -> Option<()> {
     let ten: [&[u8]; 10] = array::from_fn(|k| word(line, k));
     let words = ten.get(..count(line))?;
     fixed::answer(words, out)
-        .or_else(|| deltas::answer(words, out))
-        .or_else(|| measures::answer(words, out))
-        .or_else(|| glyphs::answer(words, out))
-        .or_else(|| tables::answer(words, out))
-        .or_else(|| scalars::answer(words, out))
-        .or_else(|| fvar::answer(words, out))
-        .or_else(|| coords::answer(words, out))
+        .or_else(|| deltas::answer(words, rooms, out))
+        .or_else(|| measures::answer(words, rooms, out))
+        .or_else(|| glyphs::answer(words, rooms, out))
+        .or_else(|| tables::answer(words, rooms, out))
+        .or_else(|| scalars::answer(words, rooms, out))
+        .or_else(|| fvar::answer(words, rooms, out))
+        .or_else(|| coords::answer(words, rooms, out))
 }
 
 // A line that fills its room is no case: its end is not there.
-fn answer_whole(line: &Line, out: &mut Output) {
-    answer(if line.is_full() { b"" } else { line.as_slice() }, out)
+fn answer_whole(line: &Line, rooms: &mut Rooms, out: &mut Output) {
+    answer(
+        if line.is_full() { b"" } else { line.as_slice() },
+        rooms,
+        out,
+    )
 }
 
 // Takes bytes that were read, and answers each line that they end.
-fn feed(bytes: &[u8], line: &mut Line, out: &mut Output) {
+fn feed(bytes: &[u8], line: &mut Line, rooms: &mut Rooms, out: &mut Output) {
     for byte in bytes {
         if *byte == b'\n' {
-            answer_whole(line, out);
+            answer_whole(line, rooms, out);
             line.clear();
         } else if !line.is_full() {
             line.push(*byte)
@@ -67,6 +72,7 @@ fn main(rt: HostRuntime) -> io::Result<()> {
     let mut from = rt.stdin();
     let mut out = Output::new(rt.stdout());
     let mut line = ArrayVec::new();
+    let mut rooms = Rooms::new();
     // `read` fills an array from its start, and says how far
     let mut bytes = [0; 65536];
     // a proved loop has to end, and nothing says that the input does: no run uses up so many turns
@@ -75,12 +81,12 @@ fn main(rt: HostRuntime) -> io::Result<()> {
         if n == 0 {
             break;
         }
-        feed(&bytes[..n], &mut line, &mut out);
+        feed(&bytes[..n], &mut line, &mut rooms, &mut out);
         out.flush()?;
     }
     // the last line may lack its end
     if !line.is_empty() {
-        answer_whole(&line, &mut out);
+        answer_whole(&line, &mut rooms, &mut out);
     }
     out.flush()
 }

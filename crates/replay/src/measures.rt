@@ -1,9 +1,9 @@
 // Cases of a font's measures.
-use crate::parse::{Place, flag, float, index, list};
+use crate::parse::{Place, Rooms, flag, float, index, list};
 use crate::print::Output;
 use metrics::measures::{Metrics, materialize_metrics};
 
-pub(crate) fn answer(words: &[&[u8]], out: &mut Output) -> Option<()> {
+pub(crate) fn answer(words: &[&[u8]], rooms: &mut Rooms, out: &mut Output) -> Option<()> {
     match words {
         [b"linear_scale", scale, measures] => {
             put(read(measures, 0, false)?.linear_scale(float(scale)?), out)
@@ -23,9 +23,9 @@ pub(crate) fn answer(words: &[&[u8]], out: &mut Output) -> Option<()> {
             measures,
         ] => {
             let unvaried = read(measures, 0, flag(has_vertical_metrics)?)?;
-            let at = Place::read(font, mvar, coords)?;
+            let at = Place::read(font, mvar, coords, rooms)?;
             put(
-                materialize_metrics(unvaried, &at.font, at.offset, &at.coords),
+                materialize_metrics(unvaried, at.font, at.offset, &at.coords),
                 out,
             )
         }

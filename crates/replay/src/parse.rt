@@ -9,6 +9,23 @@ pub(crate) type Bytes = ArrayVec<u8, 32768>;
 
 pub(crate) type List<T> = ArrayVec<T, 256>;
 
+// Room for the bytes that a case may have: a table, and a font. It is lent from case to case: handed on by
+// value, the bytes would be copied whole at each `?`.
+#[derive(Drop)]
+pub(crate) struct Rooms {
+    pub(crate) table: Bytes,
+    pub(crate) font: Bytes,
+}
+
+impl Rooms {
+    pub(crate) fn new() -> Rooms {
+        Rooms {
+            table: ArrayVec::new(),
+            font: ArrayVec::new(),
+        }
+    }
+}
+
 // 0 or 1 in decimal.
 pub(crate) fn flag(text: &[u8]) -> Option<bool> {
     match natural(text)? {
@@ -66,18 +83,23 @@ pub(crate) fn halves(text: &[u8]) -> Option<List<i16>> {
 
 // A table of a font, by its offset there, and coordinates.
 #[derive(Drop)]
-pub(crate) struct Place {
-    pub(crate) font: Bytes,
+pub(crate) struct Place<'a> {
+    pub(crate) font: &'a [u8],
     pub(crate) offset: u32,
     pub(crate) coords: List<i16>,
 }
 
-impl Place {
-    pub(crate) fn read(font: &[u8], offset: &[u8], coords: &[u8]) -> Option<Place> {
+impl<'a> Place<'a> {
+    pub(crate) fn read(
+        font: &[u8],
+        offset: &[u8],
+        coords: &[u8],
+        rooms: &'a mut Rooms,
+    ) -> Option<Place<'a>> {
         Some(Place {
             offset: natural(offset)?,
             coords: halves(coords)?,
-            font: bytes(font)?,
+            font: bytes(font, &mut rooms.font)?,
         })
     }
 }
@@ -91,11 +113,11 @@ pub(crate) fn room<T: Default + Copy + Drop>(text: &[u8], mark: T) -> Option<Lis
     Some(list)
 }
 
-// Bytes, two hexadecimal digits each, or a minus for none.
-pub(crate) fn bytes(text: &[u8]) -> Option<Bytes> {
-    let mut bytes = ArrayVec::new();
+// Bytes, two hexadecimal digits each, or a minus for none. They lie in the room that is lent.
+pub(crate) fn bytes<'a>(text: &[u8], room: &'a mut Bytes) -> Option<&'a [u8]> {
+    room.clear();
     if text == b"-".as_slice() {
-        return Some(bytes);
+        return Some(b"");
     }
     if text.is_empty() {
         return None;
@@ -104,9 +126,9 @@ pub(crate) fn bytes(text: &[u8]) -> Option<Bytes> {
         let [high, low] = pair else {
             return None;
         };
-        bytes.try_push(octet(*high, *low)?).ok()?;
+        room.try_push(octet(*high, *low)?).ok()?;
     }
-    Some(bytes)
+    Some(room.as_slice())
 }
 
 // The byte with two hexadecimal digits. (`hex` takes capitals too.)

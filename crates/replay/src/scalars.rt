@@ -1,5 +1,5 @@
 // Cases of scalars in a lent list: where a store is, filling a list, and the deltas that are read with one.
-use crate::parse::{Place, bits, bytes, index, list, natural, scalar};
+use crate::parse::{Place, Rooms, bits, bytes, index, list, natural, scalar};
 use crate::print::Output;
 use lines::filling::fill_scalars;
 use lines::{item, metric, mvar};
@@ -18,37 +18,37 @@ enum Delta {
     Mvar(u32),
 }
 
-pub(crate) fn answer(words: &[&[u8]], out: &mut Output) -> Option<()> {
+pub(crate) fn answer(words: &[&[u8]], rooms: &mut Rooms, out: &mut Output) -> Option<()> {
     match words {
         [b"store_offset", font, xvar] => {
             let xvar = natural(xvar)?;
-            out.put(store_of(&bytes(font)?, xvar))
+            out.put(store_of(bytes(font, &mut rooms.font)?, xvar))
         }
         [b"mvar_store_offset", font, offset] => {
             let offset = natural(offset)?;
-            out.put(mvar::mvar_store(&bytes(font)?, offset))
+            out.put(mvar::mvar_store(bytes(font, &mut rooms.font)?, offset))
         }
         [b"fill_scalars", font, store, coords, scalars] => {
             let mut scalars = list(scalars, scalar)?;
-            let at = Place::read(font, store, coords)?;
-            out.put(fill_scalars(&at.font, at.offset, &at.coords, &mut scalars));
+            let at = Place::read(font, store, coords, rooms)?;
+            out.put(fill_scalars(at.font, at.offset, &at.coords, &mut scalars));
             out.list(&scalars)
         }
         [name, font, offset, what @ .., scalars] if name.ends_with(b"_with") => {
             let delta = Delta::read(name.strip_suffix(b"_with")?, what)?;
             let offset = natural(offset)?;
             let scalars = list(scalars, scalar)?;
-            delta.put(&bytes(font)?, offset, &scalars, out)
+            delta.put(bytes(font, &mut rooms.font)?, offset, &scalars, out)
         }
         // what filling answers, the list, and the delta that is read with what was left
         [name, font, offset, what @ .., coords, scalars] => {
             let delta = Delta::read(name.strip_suffix(b"_filled")?, what)?;
             let mut scalars = list(scalars, scalar)?;
-            let at = Place::read(font, offset, coords)?;
+            let at = Place::read(font, offset, coords, rooms)?;
             out.put(delta.fill(&at, &mut scalars));
             out.list(&scalars);
             out.byte(b' ');
-            delta.put(&at.font, at.offset, &scalars, out)
+            delta.put(at.font, at.offset, &scalars, out)
         }
         _ => return None,
     }

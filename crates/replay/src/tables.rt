@@ -1,38 +1,44 @@
 // Cases of hmtx, vmtx and VORG, and of a glyph's measures from one call.
 use crate::glyphs::{Glyph, level, ordinate, synthesized};
-use crate::parse::{bits, bytes, float, index, list, natural};
+use crate::parse::{Rooms, bits, bytes, float, index, list, natural};
 use crate::print::Output;
 use metrics::glyph::GlyphMetrics;
 use metrics::vertical::Vertical;
 use widths::adjusted::{adjusted_advance, adjusted_sb};
 use widths::{glyph, vorg, xmtx};
 
-pub(crate) fn answer(words: &[&[u8]], out: &mut Output) -> Option<()> {
+pub(crate) fn answer(words: &[&[u8]], rooms: &mut Rooms, out: &mut Output) -> Option<()> {
     match words {
-        [b"vorg_origin", words @ ..] => put_vorg(words, out),
+        [b"vorg_origin", words @ ..] => put_vorg(words, rooms, out),
         [name, font, xmtx, long_metric_count, id] => {
             let (xmtx, count, id) = (natural(xmtx)?, index(long_metric_count)?, index(id)?);
-            put_unvaried(name, &bytes(font)?, xmtx, count, id, out)
+            put_unvaried(name, bytes(font, &mut rooms.font)?, xmtx, count, id, out)
         }
         [name, font, tables, id, coords, scale] => {
             let scale = float(scale)?;
-            put_measure(name, &Glyph::read(font, id, coords)?, tables, scale, out)
+            put_measure(
+                name,
+                &Glyph::read(font, id, coords, rooms)?,
+                tables,
+                scale,
+                out,
+            )
         }
-        [b"read_vertical_origin", words @ ..] => put_origin(words, out),
+        [b"read_vertical_origin", words @ ..] => put_origin(words, rooms, out),
         [name, font, xmtx, long_metric_count, xvar, id, coords, scale] => {
             let table = Table::read(xmtx, long_metric_count, xvar, scale)?;
-            put_adjusted(name, table, &Glyph::read(font, id, coords)?, out)
+            put_adjusted(name, table, &Glyph::read(font, id, coords, rooms)?, out)
         }
         _ => None,
     }
 }
 
-fn put_vorg(words: &[&[u8]], out: &mut Output) -> Option<()> {
+fn put_vorg(words: &[&[u8]], rooms: &mut Rooms, out: &mut Output) -> Option<()> {
     let [font, vorg, id] = words else {
         return None;
     };
     let (vorg, id) = (natural(vorg)?, index(id)?);
-    out.put(vorg::origin(&bytes(font)?, vorg, id));
+    out.put(vorg::origin(bytes(font, &mut rooms.font)?, vorg, id));
     Some(())
 }
 
@@ -52,15 +58,15 @@ fn put_unvaried(
     Some(())
 }
 
-fn put_origin(words: &[&[u8]], out: &mut Output) -> Option<()> {
+fn put_origin(words: &[&[u8]], rooms: &mut Rooms, out: &mut Output) -> Option<()> {
     let [font, tables, id, coords, y_max, units_per_em, scale] = words else {
         return None;
     };
     let unvaried = with_vmtx(tables, index(units_per_em)?)?;
     let (y_max, scale) = (ordinate(y_max)?, float(scale)?);
-    let of = Glyph::read(font, id, coords)?;
+    let of = Glyph::read(font, id, coords, rooms)?;
     let m = of.scaled(unvaried, scale);
-    out.put(glyph::vertical_origin(m, &of.font, of.id, &of.coords, y_max));
+    out.put(glyph::vertical_origin(m, of.font, of.id, &of.coords, y_max));
     Some(())
 }
 

@@ -1,13 +1,13 @@
 // The whole axis listing of an input, in a lent buffer; and what reads an input and writes its listing.
 #![tactic(auto)]
 
-ghost use Rattle.std.specs.Prelude.{◌≡◌, ◌+◌, ◌≤◌, ◌++◌, length, take, drop, IfOk, IfSome, OnOk};
-ghost use Rattle.std.specs.Io.KnownBytes.{Appends};
+ghost use Rattle.std.specs.Prelude.{◌≡◌, ◌+◌, ◌<◌, ◌≤◌, ◌++◌, length, take, drop, IfOk, IfSome, OnOk};
+ghost use Rattle.std.specs.Io.{ReadsAtMost};
+ghost use Rattle.std.specs.Io.KnownBytes.{Appends, Consumes, IsAtEnd};
 ghost use Rattle.arrayvec.specs.ArrayVec.{array_vec_len};
 ghost use Rattle.axes.specs.FvarAnswers.{header};
 ghost use Rattle.lister.specs.Listing.{axis_text, table_text, listing, over, Leads};
 
-use arrayvec::ArrayVec;
 use axes::fvar::Fvar;
 use listing::{Axis, Line, ROOM as LINE_ROOM};
 use std::io;
@@ -77,14 +77,32 @@ pub fn list(input: &[u8], out: &mut [u8; ROOM]) -> usize
     }
 }
 
+// Puts an input's bytes at the start of a buffer, until it is full or the input ends, and answers how many they are. Each read is offered all the
+// room that is left: `io::copy` offers 8,192 bytes, and of a longer message the system then drops the rest.
+fn read_full<R: Read>(from: &mut R, buf: &mut [u8]) -> io::Result<usize>
+    ensures bound { ReadsAtMost result buf.new }
+    ensures bytes { IfOk result (λ n. Consumes (R.remaining from.old) (R.remaining from.new) (take n buf.new)) }
+    ensures end { IfOk result (λ n. n < length buf.new → IsAtEnd (R.remaining from.new)) }
+{
+    let mut done: usize = 0;
+    while done < buf.len() {
+        let n = from.read(&mut buf[done..])?;
+        if n == 0 {
+            break;
+        }
+        done += n;
+    }
+    Ok(done)
+}
+
 // Reads an input, as far as it decides the listing, and writes the listing.
 fn relay<R: Read, W: Write>(from: &mut R, to: &mut W) -> io::Result<()>
     ensures { OnOk result (IfSome (R.remaining from.old) (λ input. Appends (W.contents to.old) (W.contents to.new) (listing input))) }
 {
-    let mut input = ArrayVec::<u8, LOOK>::new();
-    io::copy(&mut from.take(LOOK as u64), &mut input)?;
+    let mut input = [0u8; LOOK];
+    let n = read_full(from, &mut input)?;
     let mut out = [0u8; ROOM];
-    let end = list(input.as_slice(), &mut out);
+    let end = list(&input[..n], &mut out);
     to.write_all(&out[..end])
 }
 

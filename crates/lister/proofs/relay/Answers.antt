@@ -1,8 +1,10 @@
 -- What was read decides the listing, and the listing is what was written. Assumes nothing.
-use Rattle.lister.proofs.Limit.{looked, relayed}
+use native.Mathlib.Omega.{arith}
+use lib.ListN.{take}
+use Rattle.lister.proofs.Passing.{relayed}
 use Rattle.lister.proofs.relay.Goals as goal
 
 pub returns : goal.returns
 returns g c =
-    let copied = rw (c.take.ensures.limit, c.take.ensures.inner) at c.in_ok-copy.ensures.bytes in
-    relayed c.write_all.result _ _ _ _ _ _ (looked _ _ _ _ copied c.new-input.ensures c.as_slice.ensures.value) c.list-end.ensures.value c.write_all.ensures.bytes
+    relayed c.write_all.result _ _ _ _ (take c.in_ok-n.n c.read_full.new.buf) _ _ c.in_ok-n.ensures.bytes (λ few. c.in_ok-n.ensures.end (omega (arith, few, c.in_ok-n.ensures.bound))) c.list-end.ensures.value
+    c.write_all.ensures.bytes

@@ -1,4 +1,4 @@
--- Bounded reads on small fonts, computed by the definitions that the contracts cite. Assumes nothing.
+-- Bounded reads on small fonts, computed by OpenType's readings of each type, which the contract of `read` comes to (readers' `proofs/Types.antt`). Assumes nothing.
 use mathlib.Core.Path.{◌≡◌, refl}
 use mathlib.Core.List.{[], ◌∷◌}
 use lib.IntN.{pos}

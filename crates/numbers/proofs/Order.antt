@@ -4,6 +4,7 @@ use Rattle.std.specs.Ordering.{is_lt, int_cmp, int_eq, ord_min, ord_max}
 use Rattle.std.proofs.Common.{refl, sym, ◌∙◌}
 use Rattle.numbers.specs.declared.Fixed.{Fixed}
 use Rattle.numbers.specs.Numbers.{lesser, greater}
+use Rattle.numbers.specs.contracts.FixedOrd.TheImpl as Derived
 
 pub below : (a b : ℤ) → is_lt (int_cmp a b) ≡ int_lt a b
 below a b = go (int_lt a b) (int_lt b a) refl refl
@@ -21,15 +22,15 @@ alike a b = go (int_lt a b) (int_lt b a) refl refl
     go false true p q = rw (p, q)
     go false false p q = rw (p, q)
 
--- `min` and `max` of two 16.16 numbers are the lesser and the greater.
-pub lesser_by : (a b : Fixed) → (ord_min (λ (x y : Fixed). int_cmp x.0 y.0) a b).0 ≡ lesser a.0 b.0
+-- `min` and `max` of two 16.16 numbers, by the order that they derive, are the lesser and the greater.
+pub lesser_by : (a b : Fixed) → (ord_min Derived.ghosts.cmp a b).0 ≡ lesser a.0 b.0
 lesser_by a b = go (is_lt (int_cmp b.0 a.0)) (below b.0 a.0)
   where
     go : (t : Bool) → t ≡ int_lt b.0 a.0 → (cond t b a).0 ≡ lesser a.0 b.0
     go true e = rw (sym e)
     go false e = rw (sym e)
 
-pub greater_by : (a b : Fixed) → (ord_max (λ (x y : Fixed). int_cmp x.0 y.0) a b).0 ≡ greater a.0 b.0
+pub greater_by : (a b : Fixed) → (ord_max Derived.ghosts.cmp a b).0 ≡ greater a.0 b.0
 greater_by a b = go (is_lt (int_cmp b.0 a.0)) (below b.0 a.0)
   where
     go : (t : Bool) → t ≡ int_lt b.0 a.0 → (cond t a b).0 ≡ greater a.0 b.0

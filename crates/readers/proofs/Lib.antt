@@ -6,4 +6,5 @@ pub mod Walk
 pub mod Lent
 pub mod Passed
 pub mod TwoFonts
+pub mod Types
 pub mod One

@@ -1,4 +1,4 @@
-// Refusals, and bounded big-endian reads of a font (swash's parse.rs). Each answers what its definition says, for every position.
+// Refusals, and bounded big-endian reads of a font (swash's parse.rs). A read answers what its definition says, for every position; `from_be_data` is for a position that is known to be in the font.
 #![tactic(auto)]
 
 ghost use Rattle.std.specs.Prelude.{◌≡◌, ◌≤◌, ◌+◌, ℕ, length};

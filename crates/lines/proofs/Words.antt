@@ -1,4 +1,4 @@
--- The low bytes of a word, as a number of their own. Assumes nothing.
+-- Numbers of several bytes, by those of fewer. Assumes nothing.
 use Prim.Native.Nat.{ℕ, zero, suc, ◌+◌, ◌-◌, ◌*◌, ◌/◌, ◌^◌, ◌≤◌, ◌<◌}
 use mathlib.Core.Path.{◌≡◌, ap, ◌∙◌}
 use mathlib.Core.List.{List}
@@ -10,6 +10,11 @@ use Rattle.readers.specs.Reading.{big_endian}
 module _ (font : List ℕ) where
   byte : (i j : ℕ) → i ≡ j → get_or font i 0 ≡ get_or font j 0
   byte i j e = ap (λ k. get_or font k 0) e
+
+  -- Two words of two bytes make one of four.
+  pub word_of_halves : (p : ℕ) → big_endian 4 font p ≡ big_endian 2 font p * 65536 + big_endian 2 font (p + 2)
+  unfolding big_endian
+  word_of_halves p = omega (arith, byte (p + 2 + 0) (p + 2) (omega arith), byte (p + 2 + 1) (p + 3) (omega arith))
 
   -- The low bytes of a word are the number that its last bytes make.
   module _ (octets : (j : ℕ) → get_or font j 0 < 256) (q : ℕ) where

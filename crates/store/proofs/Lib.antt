@@ -11,6 +11,7 @@ pub mod Openings
 pub mod Records
 pub mod Search
 pub mod Opened
+pub mod Apart
 pub mod ItemOne
 pub mod MetricOne
 pub mod MvarOne

@@ -24,7 +24,7 @@ use Rattle.readers.specs.declared.Refusal.{Refusal}
 use Rattle.readers.specs.Outcome.{Outcome, value, refused}
 use Rattle.readers.specs.Answers.{number_of}
 use Rattle.readers.proofs.One.{refusal_of, refusal_back, one_fixed}
-use Rattle.opentype.specs.Mvar.{Opened, opened_delta, opened_float}
+use Rattle.opentype.specs.Mvar.{Opened, no_mvar, opened_delta, opened_float}
 use Rattle.store.specs.MvarAnswers.{opened_of, lies_at, Opens}
 use Rattle.opentype.specs.MvarDeltas.{Deltas}
 use Rattle.store.specs.MvarDeltasAnswers.{deltas_of, wanted_by}
@@ -32,6 +32,7 @@ use Rattle.store.specs.declared.mvar.Mvar.{Mvar}
 use Rattle.store.specs.declared.mvar_deltas.MeasureDeltas.{MeasureDeltas}
 use Rattle.store.specs.declared.mvar_deltas.Wanted.{Wanted}
 use Rattle.store.specs.contracts.mvar.Mvar.new as opening
+use Rattle.store.specs.contracts.mvar.Mvar.none as none
 use Rattle.store.specs.contracts.mvar.Mvar.read_delta as read-delta
 use Rattle.store.specs.contracts.mvar.Mvar.delta as delta
 use Rattle.store.specs.contracts.mvar.Mvar.deltas as deltas
@@ -129,3 +130,15 @@ pub new_one : {M : Type 1} {𝓤 : Ura M} (𝓛 : Logic 𝓤) (mem : Memory → 
     → ent 𝓤 (conj 𝓤 (new_clauses 𝓛 mem run κ font start coords r) (new_clauses 𝓛 mem run κ font start coords r')) (fact 𝓤 (Alike r r'))
 new_one {𝓤 = 𝓤} 𝓛 mem run κ font start coords r r' =
     both 𝓤 _ _ (Alike r r') (new_said 𝓛 mem run κ font start coords r) (new_said 𝓛 mem run κ font start coords r') (λ p q. alike font start coords r r' p q)
+
+-- Of `Mvar::none`, whose parts are empty, so that where they lie makes no difference.
+module _ {M : Type 1} {𝓤 : Ura M} (𝓛 : Logic 𝓤) (mem : Memory → SProp 𝓤) (run : Routine → Fun 𝓤) (κ : Lft) where
+  abbrev pub none_clauses : Mvar → SProp 𝓤
+  none_clauses r = ensured 𝓛 none.ended (none.clauses 𝓛 mem run) (κ, tt) tt tt r
+
+pub none_said : {M : Type 1} {𝓤 : Ura M} (𝓛 : Logic 𝓤) (mem : Memory → SProp 𝓤) (run : Routine → Fun 𝓤) (κ : Lft) (r : Mvar) → ent 𝓤 (none_clauses 𝓛 mem run κ r) (fact 𝓤 (opened_of r ≡ no_mvar))
+none_said {𝓤 = 𝓤} 𝓛 mem run κ r = ex_e 𝓤 _ (λ ws. snd∗ 𝓤 (sem 𝓛 (lasts none.ended (κ, tt) tt ws)) (fact 𝓤 (opened_of r ≡ no_mvar)))
+
+pub none_one : {M : Type 1} {𝓤 : Ura M} (𝓛 : Logic 𝓤) (mem : Memory → SProp 𝓤) (run : Routine → Fun 𝓤) (κ : Lft) (r r' : Mvar)
+    → ent 𝓤 (conj 𝓤 (none_clauses 𝓛 mem run κ r) (none_clauses 𝓛 mem run κ r')) (fact 𝓤 (opened_of r ≡ opened_of r'))
+none_one {𝓤 = 𝓤} 𝓛 mem run κ r r' = both 𝓤 _ _ (opened_of r ≡ opened_of r') (none_said 𝓛 mem run κ r) (none_said 𝓛 mem run κ r') (λ p q. p ∙ sym q)

@@ -1,6 +1,6 @@
 -- MVAR's opening: the tests of its header, and the part of the font that it is read in. Assumes nothing.
 use Prim.Native.Nat.{ℕ, ◌-◌, ◌<◌}
-use mathlib.Core.Path.{◌≡◌}
+use mathlib.Core.Path.{◌≡◌, refl}
 use mathlib.Core.Logic.{◌≢◌}
 use mathlib.Core.Bool.{true, false, not, ◌||◌}
 use mathlib.Core.List.{List, []}
@@ -9,6 +9,9 @@ use borrow.Author.Tests.{eq-eqb, ne_eqb}
 use lib.Dec.{eqb}
 use lib.ListN.{length, take, drop, length-drop, drop_of_length-le}
 use lib.Seq.{take_all}
+use Rattle.readers.specs.Answers.{number_of}
+use Rattle.readers.specs.declared.Refusal.{Refusal}
+use Rattle.readers.specs.declared.Refusal.TheVariants.{Absent, Short, Index, Tag, Arithmetic, Lengths, Room}
 
 module _ (count store : ℕ) where
   -- The header's test: it fails where there are no records or there is no store, and holds elsewhere.
@@ -30,3 +33,13 @@ module _ {A : Type 0} (s : List A) (at : ℕ) where
 
   pub past_end : length s < at → drop at s ≡ []
   past_end h = drop_of_length-le s {i = at} (omega arith)
+
+-- 0 is no refusal's number.
+pub not_none : (n : Refusal) → eqb (number_of n) 0 ≡ false
+not_none Absent = refl
+not_none Short = refl
+not_none Index = refl
+not_none Tag = refl
+not_none Arithmetic = refl
+not_none Lengths = refl
+not_none Room = refl

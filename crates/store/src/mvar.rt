@@ -2,7 +2,7 @@
 ghost use Rattle.std.specs.Prelude.{◌≡◌, drop, IfOk};
 ghost use Rattle.readers.specs.Reading.{run};
 ghost use Rattle.readers.specs.Answers.{outcome, outcome_as, outcome_fixed};
-ghost use Rattle.opentype.specs.Mvar.{header_at, find, mvar_delta, opened, opened_delta, opened_float};
+ghost use Rattle.opentype.specs.Mvar.{header_at, find, mvar_delta, opened, no_mvar, opened_delta, opened_float};
 ghost use Rattle.store.specs.MvarAnswers.{header_of, header_outcome, opened_of, lies_at};
 ghost use Rattle.store.specs.MvarDeltasAnswers.{deltas_of, wanted_by};
 
@@ -106,6 +106,19 @@ impl<'a> Mvar<'a> {
             rec_count: h.rec_count,
             store: h.store,
         })
+    }
+
+    // What stands for an MVAR where opening refuses: empty and all zeros, so that every tag asked of it is refused by 4.
+    pub fn none() -> Mvar<'a>
+        ensures { opened_of result ≡ no_mvar }
+    {
+        Mvar {
+            data: b"",
+            coords: &[],
+            rec_size: 0,
+            rec_count: 0,
+            store: 0,
+        }
     }
 
     // The delta of a tag, in 16.16.
